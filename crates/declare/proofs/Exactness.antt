@@ -1,0 +1,178 @@
+-- Early verdicts are exact.
+--
+-- An activation that has an eligible event keeps it, and one to which none can come stays without: so the verdict, and its target,
+-- is the same in every continuation. One that is open has two continuations that differ: none added, and the event that can come.
+use mathlib.Core.Path.{_≡_, refl, sym, _∙_, ap}
+use mathlib.Core.Bool.{Bool, true, false, cond, _&&_, true≢false, false≢true}
+use mathlib.Core.List.{List, [], _∷_, _++_, append-nil}
+use Prim.Native.Nat.{ℕ, zero, suc, _≤_, _<_}
+use native.Mathlib.Omega.{arith}
+use native.Mathlib.Numerals.{add-one}
+use borrow.Author.Tests.{eqb-true}
+use lib.Dec.{eqb}
+use lib.ListN.{length, length-append}
+use Rattle.declare.specs.Types.{Event, Rule, Polarity, Positive, Negative, Standing, Idle, Open, Fulfilled, Violated}
+use Rattle.declare.specs.Lists.{all, firstUpTo}
+use Rattle.declare.specs.Events.{wellFormed, nonFallingFrom, nonFalling, lastTime}
+use Rattle.declare.specs.Rules.{validRule}
+use Rattle.declare.specs.Suits.{activationAt}
+use Rattle.declare.specs.Templates.{polarityOf}
+use Rattle.declare.specs.Verdicts.{eligible, target, decided, verdict}
+use Rattle.declare.specs.Continuations.{continuation}
+use Rattle.declare.specs.Reachability.{canCome, undecided, standing}
+use Rattle.declare.specs.Exactness.{isFulfilled, isViolated, InEvery, InSome, Exact, Exactness, IdleElsewhere}
+use Rattle.declare.proofs.Booleans.{and₂, fails}
+use Rattle.declare.proofs.Positions.{first-same, first-stays, first-none, first-here}
+use Rattle.declare.proofs.Extension.{activation-same, eligible-same}
+use Rattle.declare.proofs.Arrival.{comes, coming, coming-continues, coming-eligible}
+
+pub none-added : (h : ℕ) → continuation h [] ≡ true
+unfolding continuation nonFallingFrom all
+none-added h = refl
+
+-- ---- the target
+
+module _ (r : Rule) (es : List Event) (i : ℕ) (low : 1 ≤ i) (high : i ≤ length es) where
+  longer : (added : List Event) → length es ≤ length (es ++ added)
+  longer added = omega (arith, length-append es added)
+
+  -- the earliest eligible one of the taken positions, in a continuation
+  target-taken : (added : List Event) → firstUpTo (eligible r (es ++ added) i) (length es) ≡ target r es i
+  unfolding target
+  target-taken added =
+      first-same (eligible r (es ++ added) i) (eligible r es i) (length es) (λ k a b. eligible-same r es added i k low high a b)
+
+  -- a target stays when events are appended
+  pub target-stays : (added : List Event) (j : ℕ) → target r es i ≡ suc j → target r (es ++ added) i ≡ suc j
+  unfolding target
+  target-stays added j e =
+      first-stays (eligible r (es ++ added) i) (length es) (length (es ++ added)) j (longer added) (target-taken added ∙ e)
+
+  target-next : (e : Event) → target r es i ≡ 0 → eligible r (es ++ e ∷ []) i (suc (length es)) ≡ true → target r (es ++ e ∷ []) i ≡ suc (length es)
+  unfolding target
+  target-next e none here =
+      rw (length-append, add-one) (first-here (eligible r (es ++ e ∷ []) i) (length es) (target-taken (e ∷ []) ∙ none) here)
+
+  module _ (h : ℕ) (falls : nonFalling es ≡ true) (past : lastTime es ≤ h) where
+    target-none : (added : List Event) → continuation h added ≡ true → target r es i ≡ 0 → canCome r es h i ≡ false → target r (es ++ added) i ≡ 0
+    unfolding target
+    target-none added more none f =
+        first-none (eligible r (es ++ added) i) (length es) (length (es ++ added)) (longer added) (target-taken added ∙ none)
+        (λ k a b. fails (eligible r (es ++ added) i k) (comes r es added h i k falls past low high a b more) f)
+
+    pub target-kept : (added : List Event) → continuation h added ≡ true → undecided r es h i ≡ false → target r (es ++ added) i ≡ target r es i
+    unfolding undecided
+    target-kept added more o = go (target r es i) refl
+      where
+        go : (j : ℕ) → target r es i ≡ j → target r (es ++ added) i ≡ target r es i
+        go zero e = target-none added more e (rw e at o) ∙ sym e
+        go (suc j) e = target-stays added j e ∙ sym e
+
+-- ---- the standing of an activation
+
+pub verdict-is : (r : Rule) (es : List Event) (i : ℕ) → activationAt r es i ≡ true → verdict r es i ≡ decided (polarityOf r) (target r es i)
+unfolding verdict
+verdict-is r es i act = rw act
+
+pub standing-is : (r : Rule) (es : List Event) (h i : ℕ) → activationAt r es i ≡ true → standing r es h i ≡ cond (undecided r es h i) Open (decided (polarityOf r) (target r es i))
+unfolding standing
+standing-is r es h i act = rw act
+
+-- a verdict is not both
+not-both : (s : Standing) → isFulfilled s ≡ true → isViolated s ≡ true → ⊥
+unfolding isFulfilled isViolated
+not-both Idle a b = false≢true a
+not-both Open a b = false≢true a
+not-both (Fulfilled j) a b = false≢true b
+not-both (Violated j) a b = false≢true a
+
+isOpen : Standing → Bool
+isOpen Idle = false
+isOpen Open = true
+isOpen (Fulfilled j) = false
+isOpen (Violated j) = false
+
+-- a target decides one way or the other
+pub fulfilled-or-violated : (p : Polarity) (j : ℕ) (s : Standing) → s ≡ decided p j → (s ≡ Open → ⊥) × (s ≡ Idle → ⊥)
+unfolding decided isFulfilled isViolated
+fulfilled-or-violated Positive zero s e = ((λ o. false≢true (ap isViolated (sym o ∙ e))), (λ o. false≢true (ap isViolated (sym o ∙ e))))
+fulfilled-or-violated Positive (suc j) s e = ((λ o. false≢true (ap isFulfilled (sym o ∙ e))), (λ o. false≢true (ap isFulfilled (sym o ∙ e))))
+fulfilled-or-violated Negative zero s e = ((λ o. false≢true (ap isFulfilled (sym o ∙ e))), (λ o. false≢true (ap isFulfilled (sym o ∙ e))))
+fulfilled-or-violated Negative (suc j) s e = ((λ o. false≢true (ap isViolated (sym o ∙ e))), (λ o. false≢true (ap isViolated (sym o ∙ e))))
+
+module _ (r : Rule) (es : List Event) (h i : ℕ) (valid : validRule r ≡ true) (falls : nonFalling es ≡ true) (past : lastTime es ≤ h) (low : 1 ≤ i) (high : i ≤ length es) (act : activationAt r es i ≡ true) where
+  verdict-later : (added : List Event) → verdict r (es ++ added) i ≡ decided (polarityOf r) (target r (es ++ added) i)
+  verdict-later added = verdict-is r (es ++ added) i (activation-same r es added i low high ∙ act)
+
+  -- ---- open: with nothing added the target is 0, with the event that can come it is that event
+  module _ (o : undecided r es h i ≡ true) where
+    o-parts : (eqb (target r es i) 0 ≡ true) × (canCome r es h i ≡ true)
+    o-parts = unfold undecided in and₂ o
+
+    none : target r es i ≡ 0
+    none = eqb-true (target r es i) 0 (o-parts .0)
+
+    added : List Event
+    added = coming r es h i ∷ []
+
+    without : verdict r (es ++ []) i ≡ decided (polarityOf r) 0
+    without = verdict-later [] ∙ ap (decided (polarityOf r)) (rw append-nil none)
+
+    with-coming : verdict r (es ++ added) i ≡ decided (polarityOf r) (suc (length es))
+    unfolding added
+    with-coming =
+        verdict-later added
+        ∙ ap (decided (polarityOf r)) (target-next r es i low high (coming r es h i) none (coming-eligible r es h i valid (o-parts .1) low high))
+
+    two : InSome isFulfilled r es h i × InSome isViolated r es h i
+    unfolding added
+    two = go (polarityOf r) without with-coming
+      where
+        go : (p : Polarity) → verdict r (es ++ []) i ≡ decided p 0 → verdict r (es ++ added) i ≡ decided p (suc (length es)) → InSome isFulfilled r es h i × InSome isViolated r es h i
+        go Positive a b =
+            unfold decided isFulfilled isViolated in ((added, coming-continues r es h i valid (o-parts .1), ap isFulfilled b), ([], none-added h, ap isViolated a))
+        go Negative a b =
+            unfold decided isFulfilled isViolated in (([], none-added h, ap isFulfilled a), (added, coming-continues r es h i valid (o-parts .1), ap isViolated b))
+
+    exact-open : standing r es h i ≡ Open → Exact r es h i
+    unfolding isFulfilled isViolated
+    exact-open e =
+        record {
+          fulfilled = ((λ k. absurd (false≢true (rw e at k))), (λ f. absurd (not-both (verdict r (es ++ two .1 .0) i) (f (two .1 .0) (two .1 .1)) (two .1 .2))));
+          violated = ((λ k. absurd (false≢true (rw e at k))), (λ f. absurd (not-both (verdict r (es ++ two .0 .0) i) (two .0 .2) (f (two .0 .0) (two .0 .1)))));
+          undecided = ((λ _. two), (λ _. e));
+          kept = λ n. absurd (n e) }
+
+  -- ---- decided: the target, and so the verdict, is kept in every continuation
+  exact-decided : standing r es h i ≡ decided (polarityOf r) (target r es i) → undecided r es h i ≡ false → Exact r es h i
+  exact-decided e o =
+      let kept : (added : List Event) → continuation h added ≡ true → verdict r (es ++ added) i ≡ standing r es h i =
+          λ added more. verdict-later added ∙ ap (decided (polarityOf r)) (target-kept r es i low high h falls past added more o) ∙ sym e in
+      record {
+        fulfilled = ((λ k added more. rw (kept added more) k), (λ f. rw (kept [] (none-added h)) at (f [] (none-added h))));
+        violated = ((λ k added more. rw (kept added more) k), (λ f. rw (kept [] (none-added h)) at (f [] (none-added h))));
+        undecided =
+            ((λ k. absurd (fulfilled-or-violated (polarityOf r) (target r es i) (standing r es h i) e .0 k)),
+            (λ t. absurd (not-both (standing r es h i) (rw (kept (t .0 .0) (t .0 .1)) at (t .0 .2)) (rw (kept (t .1 .0) (t .1 .1)) at (t .1 .2)))));
+        kept = λ _ added more. kept added more }
+
+  exact-by : (o : Bool) → undecided r es h i ≡ o → Exact r es h i
+  exact-by true o = exact-open o (standing-is r es h i act ∙ ap (λ (t : Bool). cond t Open (decided (polarityOf r) (target r es i))) o)
+  exact-by false o = exact-decided (standing-is r es h i act ∙ ap (λ (t : Bool). cond t Open (decided (polarityOf r) (target r es i))) o) o
+
+pub exactness : Exactness
+exactness r es h i valid well falls past low high act = exact-by r es h i valid falls past low high act (undecided r es h i) refl
+
+-- ---- idle
+
+pub idle-elsewhere : IdleElsewhere
+unfolding standing isOpen
+idle-elsewhere r es h i =
+    ((λ e. go (activationAt r es i) refl e), (λ n. rw n))
+  where
+    decision : (o : Bool) → cond o Open (decided (polarityOf r) (target r es i)) ≡ Idle → ⊥
+    decision true e = true≢false (ap isOpen e)
+    decision false e = fulfilled-or-violated (polarityOf r) (target r es i) (decided (polarityOf r) (target r es i)) refl .1 e
+    go : (a : Bool) → activationAt r es i ≡ a → cond a (cond (undecided r es h i) Open (decided (polarityOf r) (target r es i))) Idle ≡ Idle → activationAt r es i ≡ false
+    go true q e = absurd (decision (undecided r es h i) e)
+    go false q e = q

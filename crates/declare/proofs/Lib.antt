@@ -1,0 +1,8 @@
+-- The laws of the definitions, for this crate and those above it.
+pub mod Booleans
+pub mod Positions
+pub mod Integers
+pub mod Satisfiability
+pub mod Extension
+pub mod Arrival
+pub mod Exactness

@@ -1,0 +1,191 @@
+//! Seeded random rules and cycles with small alphabets and critical values.
+//!
+//! The same seed gives the same rules and cycles. All rules are valid, and all
+//! cycles have well-formed events and times that never fall.
+
+use crate::condition::reference_value;
+use crate::model::{Comparison, Event, Operator, Reference, Rule, World};
+
+const LEAST: i32 = World::DOCUMENT.least_reading;
+const LARGEST: i32 = World::DOCUMENT.largest_reading;
+const LARGEST_TIME: u32 = World::DOCUMENT.largest_time;
+
+/// The splitmix64 generator.
+#[derive(Debug, Clone)]
+pub struct Random {
+    state: u64,
+}
+
+impl Random {
+    pub fn new(seed: u64) -> Random {
+        Random { state: seed }
+    }
+
+    /// 64 random bits.
+    pub fn bits(&mut self) -> u64 {
+        self.state = self.state.wrapping_add(0x9E37_79B9_7F4A_7C15);
+        let mut z = self.state;
+        z = (z ^ (z >> 30)).wrapping_mul(0xBF58_476D_1CE4_E5B9);
+        z = (z ^ (z >> 27)).wrapping_mul(0x94D0_49BB_1331_11EB);
+        z ^ (z >> 31)
+    }
+
+    /// A number from 0 up to but without `end`, which is not 0. The slight
+    /// preference for small numbers does not matter for tests.
+    pub fn below(&mut self, end: usize) -> usize {
+        (self.bits() % end as u64) as usize
+    }
+
+    /// One item of a list that is not empty.
+    pub fn pick<T: Copy>(&mut self, items: &[T]) -> T {
+        items[self.below(items.len())]
+    }
+
+    /// True in one of `n` cases.
+    pub fn one_in(&mut self, n: usize) -> bool {
+        self.below(n) == 0
+    }
+}
+
+/// A random valid rule.
+pub fn random_rule(random: &mut Random) -> Rule {
+    let code = 1 + random.below(12) as u8;
+    let activation = random_activity(random);
+    let target = if random.one_in(3) {
+        activation
+    } else {
+        random_activity(random)
+    };
+    let (a, b) = random_window(random);
+    Rule::new(code, activation, target, a, b)
+        .with_activation_condition(random_condition(random, false))
+        .with_correlation(random_condition(random, true))
+}
+
+/// A list of random valid rules.
+pub fn random_rules(random: &mut Random, count: usize) -> Vec<Rule> {
+    (0..count).map(|_| random_rule(random)).collect()
+}
+
+fn random_activity(random: &mut Random) -> u8 {
+    random.pick(&[1, 1, 1, 2, 2, 2, 3, 64])
+}
+
+/// Windows at both ends of the range and of small width.
+fn random_window(random: &mut Random) -> (u32, Option<u32>) {
+    let a = random.pick(&[0, 0, 0, 0, 1, 2, 100, LARGEST_TIME - 1, LARGEST_TIME]);
+    let width = random.pick(&[1, 1, 2, 3, 100, 500]);
+    let b = match random.below(8) {
+        0..=2 => None,
+        3 => Some(LARGEST_TIME).filter(|b| *b > a),
+        _ => a.checked_add(width),
+    };
+    (a, b)
+}
+
+/// Mostly none, one or two comparisons, now and then one for each reading.
+fn random_condition(random: &mut Random, correlation: bool) -> Vec<Comparison> {
+    let count = random.pick(&[0, 0, 0, 0, 1, 1, 1, 1, 2, 2, 3, 4]);
+    let mut numbers = if count <= 2 {
+        vec![1, 2]
+    } else {
+        vec![1, 2, 3, 4]
+    };
+    (0..count)
+        .map(|_| {
+            let at = random.below(numbers.len());
+            let reading = numbers.swap_remove(at);
+            Comparison {
+                reading,
+                operator: random.pick(&Operator::ALL),
+                reference: random_reference(random, correlation),
+            }
+        })
+        .collect()
+}
+
+fn random_reference(random: &mut Random, correlation: bool) -> Reference {
+    if correlation && !random.one_in(3) {
+        return Reference::Activation {
+            reading: random.pick(&[1, 1, 1, 2, 2, 3, 4]),
+            plus: random.pick(&[0, 0, 0, 0, 1, -1, 7, LEAST, LARGEST]),
+        };
+    }
+    Reference::Constant(random.pick(&[0, 0, 0, 1, -1, 7, LEAST, LEAST + 1, LARGEST - 1, LARGEST]))
+}
+
+/// A random cycle of `length` events whose activities, times and readings are
+/// drawn close to what the rules name.
+pub fn random_cycle(random: &mut Random, rules: &[Rule], length: usize) -> Vec<Event> {
+    let steps = critical_steps(rules);
+    let mut time = random_start(random, &steps);
+    let mut events: Vec<Event> = Vec::with_capacity(length);
+    for _ in 0..length {
+        let mut event = Event::new(time, random_event_activity(random, rules));
+        for number in 1..=4 {
+            let values = critical_readings(rules, number, &events, random);
+            event.readings[number - 1] = random.pick(&values);
+        }
+        events.push(event);
+        time = time.saturating_add(random.pick(&steps));
+    }
+    events
+}
+
+/// Repeated times, steps of 1, and steps beside each rule's a and b.
+fn critical_steps(rules: &[Rule]) -> Vec<u32> {
+    let mut steps = vec![0, 0, 1];
+    for rule in rules {
+        for bound in std::iter::once(rule.a).chain(rule.b) {
+            steps.push(bound.saturating_sub(1));
+            steps.push(bound);
+            steps.push(bound.saturating_add(1));
+        }
+    }
+    steps
+}
+
+/// Starts at time 0, at a small time, near the largest, or a step before it.
+fn random_start(random: &mut Random, steps: &[u32]) -> u32 {
+    match random.below(8) {
+        0..=3 => 0,
+        4 => random.below(1000) as u32,
+        5 => LARGEST_TIME - random.below(4) as u32,
+        _ => LARGEST_TIME - random.pick(steps),
+    }
+}
+
+fn random_event_activity(random: &mut Random, rules: &[Rule]) -> u8 {
+    if rules.is_empty() || random.one_in(6) {
+        return random_activity(random);
+    }
+    let rule = &rules[random.below(rules.len())];
+    random.pick(&[rule.activation, rule.target])
+}
+
+/// Values for reading `number` (1 to 4): blank, values at the ends of the
+/// range, and values at and beside the references of the rules' comparisons of
+/// that reading, against a random earlier event.
+fn critical_readings(
+    rules: &[Rule],
+    number: usize,
+    earlier: &[Event],
+    random: &mut Random,
+) -> Vec<Option<i32>> {
+    let activation = if earlier.is_empty() {
+        Event::new(0, 1)
+    } else {
+        random.pick(earlier)
+    };
+    let mut values = [LEAST, LEAST + 1, 0, LARGEST].map(Some).to_vec();
+    values.push(None);
+    for rule in rules {
+        for comparison in rule.activation_condition.iter().chain(&rule.correlation) {
+            let value = reference_value(comparison.reference, &activation)
+                .filter(|_| usize::from(comparison.reading) == number);
+            let near = value.into_iter().flat_map(|v| v - 1..=v + 1);
+            values.extend(near.filter_map(|v| i32::try_from(v).ok()).map(Some));
+        }
+    }
+    values
+}
