@@ -83,8 +83,8 @@ comes r es added h i j falls past low high beyond end more eligible-there =
     let u : suits r a e ≡ true = rw (← event-same es added i low high, ← event-added es added j beyond) (g .0) in
     let s = suits-parts r a e u in
     let reached : inReach (reachOf r) (activationAt r es) i (suc (length es)) ≡ true =
-        sym (in-reach-same r es added i (suc (length es)) high (omega arith))
-        ∙ reach-next (reachOf r) (activationAt r (es ++ added)) (length es) i j high beyond (g .1) in
+    sym (in-reach-same r es added i (suc (length es)) high (omega arith))
+    ∙ reach-next (reachOf r) (activationAt r (es ++ added)) (length es) i j high beyond (g .1) in
     let t : a .time ≤ h = omega (arith, position-last es i falls low high) in
     both₃ reached
     (room (r .window) (a .time) h (e .time) t (start-first h added (j - suc (length es)) (c .0) l) (leb-true (e .time) latest (w .0)) (s .1))
@@ -116,6 +116,7 @@ tests-named a r valid =
   where
     rule-parts : (validHead r ≡ true) × (validCondition false (r .condition) ≡ true) × (validCondition true (r .correlation) ≡ true)
     rule-parts = unfold validRule in and₃ valid
+
     condition-parts : (leb (r .correlation .count) 4 ≡ true) × (all (validComparison true) (comparisonsOf (r .correlation)) ≡ true) × (noneTwice (comparisonsOf (r .correlation)) ≡ true)
     condition-parts = unfold validCondition in and₃ (rule-parts .2)
 
@@ -124,6 +125,7 @@ valid-target r valid = head-parts .2
   where
     rule-parts : (validHead r ≡ true) × (validCondition false (r .condition) ≡ true) × (validCondition true (r .correlation) ≡ true)
     rule-parts = unfold validRule in and₃ valid
+
     head-parts : (isTemplate (r .code) ≡ true) × (isActivity (r .activation) ≡ true) × (isActivity (r .target) ≡ true) × (validWindow (r .window) ≡ true)
     head-parts = unfold validHead in and₄ (rule-parts .0)
 
@@ -140,7 +142,7 @@ module _ (r : Rule) (es : List Event) (h i : ℕ) (valid : validRule r ≡ true)
   unfolding wellFormed
   coming-well-formed =
       let readings : readingsInRange (coming r es h i) ≡ true =
-          unfold coming in bringing-in-range (testsOf (eventAt es i) (r .correlation)) (come-parts .2) (soonest (r .window) ((eventAt es i) .time) h) (r .target) in
+      unfold coming in bringing-in-range (testsOf (eventAt es i) (r .correlation)) (come-parts .2) (soonest (r .window) ((eventAt es i) .time) h) (r .target) in
       let time : leb ((coming r es h i) .time) latest ≡ true = rw (coming-time r es h i) (room-parts .0) in
       let activity : isActivity ((coming r es h i) .activity) ≡ true = rw (coming-activity r es h i) (valid-target r valid) in
       both₃ time activity readings
@@ -160,12 +162,12 @@ module _ (r : Rule) (es : List Event) (h i : ℕ) (valid : validRule r ≡ true)
   unfolding suits correlates
   coming-suits =
       let apart : between ((eventAt es i) .time) ((coming r es h i) .time) ≡ soonest (r .window) ((eventAt es i) .time) h - (eventAt es i) .time =
-          rw (coming-time r es h i) (unfold soonest in omega arith) in
+      rw (coming-time r es h i) (unfold soonest in omega arith) in
       both (both (eq-eqb _ _ (coming-activity r es h i)) coming-met) (rw apart (room-parts .1))
 
   pub coming-eligible : 1 ≤ i → i ≤ length es → eligible r (es ++ coming r es h i ∷ []) i (suc (length es)) ≡ true
   unfolding eligible
   coming-eligible low high =
       let s : suits r (eventAt (es ++ coming r es h i ∷ []) i) (eventAt (es ++ coming r es h i ∷ []) (suc (length es))) ≡ true =
-          rw (event-next es (coming r es h i), event-same es (coming r es h i ∷ []) i low high) coming-suits in
+      rw (event-next es (coming r es h i), event-same es (coming r es h i ∷ []) i low high) coming-suits in
       both s (in-reach-same r es (coming r es h i ∷ []) i (suc (length es)) high (omega arith) ∙ come-parts .0)

@@ -141,20 +141,23 @@ module _ (r : Rule) (es : List Event) (h i : ℕ) (valid : validRule r ≡ true)
           fulfilled = ((λ k. absurd (false≢true (rw e at k))), (λ f. absurd (not-both (verdict r (es ++ two .1 .0) i) (f (two .1 .0) (two .1 .1)) (two .1 .2))));
           violated = ((λ k. absurd (false≢true (rw e at k))), (λ f. absurd (not-both (verdict r (es ++ two .0 .0) i) (two .0 .2) (f (two .0 .0) (two .0 .1)))));
           undecided = ((λ _. two), (λ _. e));
-          kept = λ n. absurd (n e) }
+          kept = λ n. absurd (n e);
+        }
 
   -- ---- decided: the target, and so the verdict, is kept in every continuation
   exact-decided : standing r es h i ≡ decided (polarityOf r) (target r es i) → undecided r es h i ≡ false → Exact r es h i
   exact-decided e o =
       let kept : (added : List Event) → continuation h added ≡ true → verdict r (es ++ added) i ≡ standing r es h i =
-          λ added more. verdict-later added ∙ ap (decided (polarityOf r)) (target-kept r es i low high h falls past added more o) ∙ sym e in
+      λ added more. verdict-later added ∙ ap (decided (polarityOf r)) (target-kept r es i low high h falls past added more o) ∙ sym e in
       record {
         fulfilled = ((λ k added more. rw (kept added more) k), (λ f. rw (kept [] (none-added h)) at (f [] (none-added h))));
         violated = ((λ k added more. rw (kept added more) k), (λ f. rw (kept [] (none-added h)) at (f [] (none-added h))));
-        undecided =
-            ((λ k. absurd (fulfilled-or-violated (polarityOf r) (target r es i) (standing r es h i) e .0 k)),
-            (λ t. absurd (not-both (standing r es h i) (rw (kept (t .0 .0) (t .0 .1)) at (t .0 .2)) (rw (kept (t .1 .0) (t .1 .1)) at (t .1 .2)))));
-        kept = λ _ added more. kept added more }
+        undecided = (
+          (λ k. absurd (fulfilled-or-violated (polarityOf r) (target r es i) (standing r es h i) e .0 k)),
+          (λ t. absurd (not-both (standing r es h i) (rw (kept (t .0 .0) (t .0 .1)) at (t .0 .2)) (rw (kept (t .1 .0) (t .1 .1)) at (t .1 .2)))),
+        );
+        kept = λ _ added more. kept added more;
+      }
 
   exact-by : (o : Bool) → undecided r es h i ≡ o → Exact r es h i
   exact-by true o = exact-open o (standing-is r es h i act ∙ ap (λ (t : Bool). cond t Open (decided (polarityOf r) (target r es i))) o)
@@ -173,6 +176,7 @@ idle-elsewhere r es h i =
     decision : (o : Bool) → cond o Open (decided (polarityOf r) (target r es i)) ≡ Idle → ⊥
     decision true e = true≢false (ap isOpen e)
     decision false e = fulfilled-or-violated (polarityOf r) (target r es i) (decided (polarityOf r) (target r es i)) refl .1 e
+
     go : (a : Bool) → activationAt r es i ≡ a → cond a (cond (undecided r es h i) Open (decided (polarityOf r) (target r es i))) Idle ≡ Idle → activationAt r es i ≡ false
     go true q e = absurd (decision (undecided r es h i) e)
     go false q e = q

@@ -6,3 +6,4 @@ pub mod Satisfiability
 pub mod Extension
 pub mod Arrival
 pub mod Exactness
+pub mod Words

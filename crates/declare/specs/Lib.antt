@@ -11,3 +11,4 @@ pub mod Verdicts
 pub mod Continuations
 pub mod Reachability
 pub mod Exactness
+pub mod Words

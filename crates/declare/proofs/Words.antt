@@ -1,0 +1,288 @@
+-- The definitions compute what document 01's sentences say.
+use mathlib.Core.Path.{_≡_, refl, sym, _∙_, ap}
+use mathlib.Core.Logic.{_↔_}
+use mathlib.Core.Bool.{Bool, true, false, not, _&&_, true≢false, false≢true}
+use mathlib.Core.List.{List, [], _∷_, _++_}
+use Prim.Native.Nat.{ℕ, zero, suc, _+_, _-_, _≤_, _<_}
+use native.Mathlib.Omega.{arith}
+use native.Mathlib.Nat.{not-suc-le-zero, le-of-suc-le-suc}
+use native.Mathlib.Decide.{ℕ-discrete}
+use borrow.Author.Tests.{ltb-true, leb-true, eqb-true, lt-ltb, le-leb, eq-eqb, not-true}
+use lib.Dec.{leb, ltb, eqb}
+use lib.ListN.{length, getD}
+use Rattle.declare.specs.Types.{Event, Test, End, Never, At, Reach, Anywhere, AtOrAfter, AlternateAfter, Next, AtOrBefore, AlternateBefore, Previous, Polarity, Positive, Negative, Rule, Standing, Idle, Open, Fulfilled, Violated}
+use Rattle.declare.specs.Lists.{all, noneBetween, orElse, firstUpTo}
+use Rattle.declare.specs.Comparisons.{passes}
+use Rattle.declare.specs.Conditions.{met}
+use Rattle.declare.specs.Events.{readingsInRange, wellFormed, nonFallingFrom, nonFalling, lastFrom, lastTime, noEvent, eventAt}
+use Rattle.declare.specs.Rules.{isReading}
+use Rattle.declare.specs.Suits.{activationAt, before, within, between, correlates, suits}
+use Rattle.declare.specs.Templates.{templates, templateOf, inReach, reachOf, polarityOf}
+use Rattle.declare.specs.Verdicts.{eligible, target, decided, verdict}
+use Rattle.declare.specs.Continuations.{horizon, continuation}
+use Rattle.declare.specs.Reachability.{satisfiable}
+use Rattle.declare.specs.Exactness.{isFulfilled, isViolated}
+use Rattle.declare.specs.Words.{NeverFall, Before, Suits, NoActivationBetween, Eligible, Twelve, SomeEligible, NoneEligible, Names, targetIn, Judged, Satisfiable, Words}
+use Rattle.declare.proofs.Booleans.{and-left, and-right, and₂, and₃, both}
+use Rattle.declare.proofs.Extension.{non-falling-parts}
+use Rattle.declare.proofs.Satisfiability.{sound, complete, bringing, bringing-in-range}
+use Rattle.declare.proofs.Exactness.{verdict-is}
+
+-- ---- times
+
+falls→ : (es : List Event) (s : ℕ) → nonFallingFrom s es ≡ true → (k : ℕ) → suc k < length es → (getD es k noEvent) .time ≤ (getD es (suc k) noEvent) .time
+unfolding nonFallingFrom
+falls→ [] s h k l = absurd (not-suc-le-zero l)
+falls→ (e ∷ []) s h k l = absurd (not-suc-le-zero (le-of-suc-le-suc l))
+falls→ (e ∷ f ∷ es) s h zero l =
+    leb-true (e .time) (f .time) (and-left (leb (e .time) (f .time)) (nonFallingFrom (f .time) es) (and-right (leb s (e .time)) (leb (e .time) (f .time) && nonFallingFrom (f .time) es) h))
+falls→ (e ∷ f ∷ es) s h (suc k) l =
+    falls→ (f ∷ es) (e .time) (and-right (leb s (e .time)) (leb (e .time) (f .time) && nonFallingFrom (f .time) es) h) k (le-of-suc-le-suc l)
+
+falls← : (es : List Event) (s : ℕ) → s ≤ (getD es 0 noEvent) .time → ((k : ℕ) → suc k < length es → (getD es k noEvent) .time ≤ (getD es (suc k) noEvent) .time) → nonFallingFrom s es ≡ true
+unfolding nonFallingFrom
+falls← [] s l f = refl
+falls← (e ∷ []) s l f = both (le-leb s (e .time) l) refl
+falls← (e ∷ g ∷ es) s l f =
+    both (le-leb s (e .time) l) (falls← (g ∷ es) (e .time) (f 0 (omega arith)) (λ k m. f (suc k) (omega arith)))
+
+times : (es : List Event) → (nonFalling es ≡ true) ↔ NeverFall es
+unfolding nonFalling eventAt
+times es = (to, from)
+  where
+    to : nonFallingFrom 0 es ≡ true → (k : ℕ) → 1 ≤ k → k < length es → (getD es (k - 1) noEvent) .time ≤ (getD es (k + 1 - 1) noEvent) .time
+    to h k a b =
+        let p : k + 1 - 1 ≡ suc (k - 1) = omega arith in
+        rw p (falls→ es 0 h (k - 1) (omega arith))
+
+    from : ((k : ℕ) → 1 ≤ k → k < length es → (getD es (k - 1) noEvent) .time ≤ (getD es (k + 1 - 1) noEvent) .time) → nonFallingFrom 0 es ≡ true
+    from f = falls← es 0 (omega arith) (λ k l. at k l)
+      where
+        at : (k : ℕ) → suc k < length es → (getD es k noEvent) .time ≤ (getD es (suc k) noEvent) .time
+        at k l =
+            let p : suc k - 1 ≡ k = omega arith in
+            let q : suc k + 1 - 1 ≡ suc k = omega arith in
+            rw (p, q) at (f (suc k) (omega arith) l)
+
+-- ---- suits
+
+before-reads : (d : ℕ) (u : End) → (before d u ≡ true) ↔ Before d u
+unfolding before
+before-reads d Never = ((λ _. tt), (λ _. refl))
+before-reads d (At b) = (ltb-true d b, lt-ltb d b)
+
+suited : (r : Rule) (a e : Event) → (suits r a e ≡ true) ↔ Suits r a e
+unfolding suits correlates within
+suited r a e = (to, from)
+  where
+    d : ℕ
+    d = between (a .time) (e .time)
+
+    to : ((eqb (e .activity) (r .target) && met (r .correlation) a e) && (leb (r .window .from) d && before d (r .window .until))) ≡ true → Suits r a e
+    to h =
+        let p : ((eqb (e .activity) (r .target) && met (r .correlation) a e) ≡ true) × ((leb (r .window .from) d && before d (r .window .until)) ≡ true) = and₂ h in
+        let q : (eqb (e .activity) (r .target) ≡ true) × (met (r .correlation) a e ≡ true) = and₂ (p .0) in
+        let w : (leb (r .window .from) d ≡ true) × (before d (r .window .until) ≡ true) = and₂ (p .1) in
+        record {
+          has-target-activity = eqb-true (e .activity) (r .target) (q .0);
+          meets-correlation = q .1;
+          at-least-a = leb-true (r .window .from) d (w .0);
+          below-b = before-reads d (r .window .until) .0 (w .1);
+        }
+
+    from : Suits r a e → ((eqb (e .activity) (r .target) && met (r .correlation) a e) && (leb (r .window .from) d && before d (r .window .until))) ≡ true
+    from s =
+        both (both (eq-eqb (e .activity) (r .target) (s .has-target-activity)) (s .meets-correlation))
+        (both (le-leb (r .window .from) d (s .at-least-a)) (before-reads d (r .window .until) .1 (s .below-b)))
+
+-- ---- none between
+
+abbrev NoneBetween : (ℕ → Bool) → ℕ → ℕ → Type 0
+NoneBetween p low high = (k : ℕ) → low < k → k < high → p k ≡ false
+
+between→ : (p : ℕ → Bool) (low high : ℕ) → noneBetween p low high ≡ true → NoneBetween p low high
+unfolding noneBetween
+between→ p low zero h k a b = absurd (not-suc-le-zero b)
+between→ p low (suc m) h k a b = go (ℕ-discrete k m) (between→ p low m (and-left _ _ h) k a)
+  where
+    go : Dec (k ≡ m) → (k < m → p k ≡ false) → p k ≡ false
+    go (yes e) f =
+        rw e (sym (ap (λ (t : Bool). t && p m) (lt-ltb low m (omega arith))) ∙ not-true (ltb low m && p m) (and-right (noneBetween p low m) _ h))
+    go (no n) f = f (omega arith)
+
+between← : (p : ℕ → Bool) (low high : ℕ) → NoneBetween p low high → noneBetween p low high ≡ true
+unfolding noneBetween
+between← p low zero f = refl
+between← p low (suc m) f = both (between← p low m (λ k a b. f k a (omega arith))) (ap not (go (ltb low m) refl))
+  where
+    go : (t : Bool) → ltb low m ≡ t → (t && p m) ≡ false
+    go true e = f m (ltb-true low m e) (omega arith)
+    go false e = refl
+
+pub between-reads : (p : ℕ → Bool) (low high : ℕ) → (noneBetween p low high ≡ true) ↔ NoneBetween p low high
+between-reads p low high = (between→ p low high, between← p low high)
+
+alternate : (p : ℕ → Bool) (i j : ℕ) → ((ltb i j && noneBetween p i j) ≡ true) ↔ ((i < j) × NoneBetween p i j)
+alternate p i j = (
+  (λ h. (ltb-true i j (and-left _ _ h), between→ p i j (and-right (ltb i j) _ h))),
+  (λ q. both (lt-ltb i j (q .0)) (between← p i j (q .1))),
+)
+
+-- ---- the twelve templates
+
+-- what the reach of a code asks of positions i and j
+module _ (r : Rule) (es : List Event) (i j : ℕ) where
+  eligible-as : (code : ℕ) (R : Reach) (P : Type 0) → (templateOf code) .reach ≡ R → ((inReach R (activationAt r es) i j ≡ true) ↔ P) → Eligible code r es i j P
+  unfolding eligible
+  eligible-as code R P q asks c = (to, from)
+    where
+      reach-is : inReach (reachOf r) (activationAt r es) i j ≡ inReach R (activationAt r es) i j
+      reach-is = ap (λ (k : ℕ). inReach ((templateOf k) .reach) (activationAt r es) i j) c ∙ ap (λ (S : Reach). inReach S (activationAt r es) i j) q
+
+      to : (suits r (eventAt es i) (eventAt es j) && inReach (reachOf r) (activationAt r es) i j) ≡ true → Suits r (eventAt es i) (eventAt es j) × P
+      to h =
+          let p : (suits r (eventAt es i) (eventAt es j) ≡ true) × (inReach (reachOf r) (activationAt r es) i j ≡ true) = and₂ h in
+          (suited r (eventAt es i) (eventAt es j) .0 (p .0), asks .0 (sym reach-is ∙ p .1))
+
+      from : Suits r (eventAt es i) (eventAt es j) × P → (suits r (eventAt es i) (eventAt es j) && inReach (reachOf r) (activationAt r es) i j) ≡ true
+      from p = both (suited r (eventAt es i) (eventAt es j) .1 (p .0)) (reach-is ∙ asks .1 (p .1))
+
+  pub twelve : Twelve r es i j
+  unfolding inReach templateOf templates
+  twelve =
+      record {
+        responded-existence = eligible-as 1 Anywhere (Unit {0}) refl ((λ _. tt), (λ _. refl));
+        response = eligible-as 2 AtOrAfter (i ≤ j) refl (leb-true i j, le-leb i j);
+        alternate-response = eligible-as 3 AlternateAfter ((i < j) × NoActivationBetween r es i j) refl (alternate (activationAt r es) i j);
+        chain-response = eligible-as 4 Next (j ≡ i + 1) refl (eqb-true j (i + 1), eq-eqb j (i + 1));
+        precedence = eligible-as 5 AtOrBefore (j ≤ i) refl (leb-true j i, le-leb j i);
+        alternate-precedence = eligible-as 6 AlternateBefore ((j < i) × NoActivationBetween r es j i) refl (alternate (activationAt r es) j i);
+        chain-precedence = eligible-as 7 Previous (j + 1 ≡ i) refl (eqb-true (j + 1) i, eq-eqb (j + 1) i);
+        not-responded-existence = eligible-as 8 Anywhere (Unit {0}) refl ((λ _. tt), (λ _. refl));
+        not-response = eligible-as 9 AtOrAfter (i ≤ j) refl (leb-true i j, le-leb i j);
+        not-precedence = eligible-as 10 AtOrBefore (j ≤ i) refl (leb-true j i, le-leb j i);
+        not-chain-response = eligible-as 11 Next (j ≡ i + 1) refl (eqb-true j (i + 1), eq-eqb j (i + 1));
+        not-chain-precedence = eligible-as 12 Previous (j + 1 ≡ i) refl (eqb-true (j + 1) i, eq-eqb (j + 1) i);
+      }
+
+-- ---- the target
+
+-- j is the earliest of 1 to n that passes, or 0 if none does
+abbrev pub Earliest : (ℕ → Bool) → ℕ → ℕ → Type 0
+Earliest p n zero = (k : ℕ) → 1 ≤ k → k ≤ n → p k ≡ false
+Earliest p n (suc j) = (suc j ≤ n) × (p (suc j) ≡ true) × ((k : ℕ) → 1 ≤ k → k < suc j → p k ≡ false)
+
+pub earliest : (p : ℕ → Bool) (n : ℕ) → Earliest p n (firstUpTo p n)
+unfolding firstUpTo orElse
+earliest p zero = λ k a b. absurd (omega arith)
+earliest p (suc n) = step (firstUpTo p n) (earliest p n) (p (suc n)) refl
+  where
+    last : Earliest p n 0 → p (suc n) ≡ false → (k : ℕ) → 1 ≤ k → k ≤ suc n → Dec (k ≡ suc n) → p k ≡ false
+    last e q k a b (yes z) = rw z q
+    last e q k a b (no z) = e k a (omega arith)
+
+    step : (f : ℕ) → Earliest p n f → (t : Bool) → p (suc n) ≡ t → Earliest p (suc n) (orElse f t (suc n))
+    step zero e true q = (omega arith, q, λ k a b. e k a (omega arith))
+    step zero e false q = λ k a b. last e q k a b (ℕ-discrete k (suc n))
+    step (suc j) e t q = (omega arith, e .1, e .2)
+
+pub named : (r : Rule) (es : List Event) (i : ℕ) → Names r es i (target r es i)
+unfolding target
+named r es i = go (firstUpTo (eligible r es i) (length es)) (earliest (eligible r es i) (length es))
+  where
+    go : (j : ℕ) → Earliest (eligible r es i) (length es) j → Names r es i j
+    go zero e = e
+    go (suc j) e = e
+
+-- ---- the verdict
+
+positive : (code : ℕ) → 1 ≤ code → code ≤ 7 → (templateOf code) .polarity ≡ Positive
+unfolding templateOf templates
+positive zero a b = absurd (not-suc-le-zero a)
+positive (suc zero) a b = refl
+positive (suc (suc zero)) a b = refl
+positive (suc (suc (suc zero))) a b = refl
+positive (suc (suc (suc (suc zero)))) a b = refl
+positive (suc (suc (suc (suc (suc zero))))) a b = refl
+positive (suc (suc (suc (suc (suc (suc zero)))))) a b = refl
+positive (suc (suc (suc (suc (suc (suc (suc zero))))))) a b = refl
+positive (suc (suc (suc (suc (suc (suc (suc (suc k)))))))) a b = absurd (omega arith)
+
+negative : (k : ℕ) → k < 5 → (templateOf (8 + k)) .polarity ≡ Negative
+unfolding templateOf templates
+negative zero a = refl
+negative (suc zero) a = refl
+negative (suc (suc zero)) a = refl
+negative (suc (suc (suc zero))) a = refl
+negative (suc (suc (suc (suc zero)))) a = refl
+negative (suc (suc (suc (suc (suc k))))) a = absurd (omega arith)
+
+target-in : (p : Polarity) (j : ℕ) → targetIn (decided p j) ≡ j
+unfolding targetIn decided
+target-in Positive zero = refl
+target-in Positive (suc j) = refl
+target-in Negative zero = refl
+target-in Negative (suc j) = refl
+
+-- a target other than 0 is eligible, and at 0 none is
+module _ (r : Rule) (es : List Event) (i : ℕ) where
+  not-both : SomeEligible r es i → NoneEligible r es i → ⊥
+  not-both s n = true≢false (sym (s .3) ∙ n (s .0) (s .1) (s .2))
+
+  some : (j : ℕ) → Names r es i (suc j) → SomeEligible r es i
+  some j n = (suc j, omega arith, n .0, n .1)
+
+  -- a test of the target that passes just where there is one, and one that passes just where there is none
+  tells-some : (t : ℕ → Bool) → t 0 ≡ false → ((j : ℕ) → t (suc j) ≡ true) → (j : ℕ) → Names r es i j → (t j ≡ true) ↔ SomeEligible r es i
+  tells-some t a b zero n = ((λ h. absurd (false≢true (sym a ∙ h))), (λ s. absurd (not-both s n)))
+  tells-some t a b (suc j) n = ((λ _. some j n), (λ _. b j))
+
+  tells-none : (t : ℕ → Bool) → t 0 ≡ true → ((j : ℕ) → t (suc j) ≡ false) → (j : ℕ) → Names r es i j → (t j ≡ true) ↔ NoneEligible r es i
+  tells-none t a b zero n = ((λ _. n), (λ _. a))
+  tells-none t a b (suc j) n = ((λ h. absurd (false≢true (sym (b j) ∙ h))), (λ m. absurd (not-both (some j n) m)))
+
+  pub judged : activationAt r es i ≡ true → Judged r es i
+  unfolding decided isFulfilled isViolated
+  judged act =
+      record {
+        fulfilled = λ a b. rw (with-polarity (positive (r .code) a b)) (tells-some (λ j. isFulfilled (decided Positive j)) refl (λ j. refl) (target r es i) (named r es i));
+        violated = λ a b. rw (with-polarity (positive (r .code) a b)) (tells-none (λ j. isViolated (decided Positive j)) refl (λ j. refl) (target r es i) (named r es i));
+        negative-violated = λ a b. rw (with-polarity (negatively a b)) (tells-some (λ j. isViolated (decided Negative j)) refl (λ j. refl) (target r es i) (named r es i));
+        negative-fulfilled = λ a b. rw (with-polarity (negatively a b)) (tells-none (λ j. isFulfilled (decided Negative j)) refl (λ j. refl) (target r es i) (named r es i));
+        names = rw (verdict-is r es i act, target-in (polarityOf r) (target r es i)) (named r es i);
+      }
+    where
+      with-polarity : {p : Polarity} → polarityOf r ≡ p → verdict r es i ≡ decided p (target r es i)
+      with-polarity q = verdict-is r es i act ∙ ap (λ (p : Polarity). decided p (target r es i)) q
+
+      negatively : 8 ≤ r .code → r .code ≤ 12 → polarityOf r ≡ Negative
+      negatively a b =
+          let e : 8 + (r .code - 8) ≡ r .code = omega arith in
+          ap (λ (c : ℕ). (templateOf c) .polarity) (sym e) ∙ negative (r .code - 8) (omega arith)
+
+-- ---- continuations
+
+continued : (es added : List Event) → nonFalling es ≡ true → continuation (horizon es) added ≡ (nonFalling (es ++ added) && all wellFormed added)
+unfolding continuation horizon nonFalling lastTime
+continued es added falls =
+    let parts : nonFallingFrom 0 (es ++ added) ≡ nonFallingFrom (lastFrom 0 es) added =
+    non-falling-parts 0 es added ∙ ap (λ (t : Bool). t && nonFallingFrom (lastFrom 0 es) added) falls in
+    ap (λ (t : Bool). t && all wellFormed added) (sym parts)
+
+satisfied : (ts : List Test) → all (λ t. isReading (t .reading)) ts ≡ true → (satisfiable ts ≡ true) ↔ Satisfiable ts
+satisfied ts named = (
+  (λ can. (bringing ts 0 1, bringing-in-range ts can 0 1, complete ts can 0 1 named)),
+  (λ s. sound ts (s .0) (s .1) (s .2)),
+)
+
+pub words : Words
+words =
+    record {
+      times = times;
+      suited = suited;
+      twelve = twelve;
+      named = named;
+      judged = judged;
+      continued = continued;
+      satisfied = satisfied;
+    }
