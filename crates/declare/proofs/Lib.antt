@@ -7,3 +7,4 @@ pub mod Extension
 pub mod Arrival
 pub mod Exactness
 pub mod Words
+pub mod EdgeCycles

@@ -12,3 +12,5 @@ pub mod Continuations
 pub mod Reachability
 pub mod Exactness
 pub mod Words
+pub mod EdgeCycles
+pub mod FurtherCases
