@@ -8,3 +8,4 @@ pub mod Arrival
 pub mod Exactness
 pub mod Words
 pub mod EdgeCycles
+pub mod Refusals

@@ -10,6 +10,7 @@ pub mod Templates
 pub mod Verdicts
 pub mod Continuations
 pub mod Reachability
+pub mod Refusals
 pub mod Exactness
 pub mod Words
 pub mod EdgeCycles

@@ -121,3 +121,21 @@ pub enum Standing {
     Fulfilled(u16),
     Violated(u16),
 }
+
+// Why a call is refused.
+pub enum Refusal {
+    FieldCount,
+    NumberForm,
+    OutOfRange,
+    ComparisonForm,
+    ReadingTwice,
+    EmptyWindow,
+    TimeFalls,
+    TooMany,
+    WrongPhase,
+    NotFound,
+    InvalidRecord,
+    NoLineEnd,
+    NoFile,
+    TallyOverflow,
+}
