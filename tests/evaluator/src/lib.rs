@@ -5,7 +5,7 @@
 //!
 //! - [`model`]: events, rules, standings and the limits on them ([`World`]).
 //! - [`condition`]: when a comparison holds and a condition is met.
-//! - [`verdict`]: [`verdict()`] and [`verdicts`] judge a finished cycle.
+//! - [`mod@verdict`]: [`verdict()`] and [`verdicts`] judge a finished cycle.
 //! - [`live`]: [`standing`], [`standing_at_last`] and [`standings`] judge a
 //!   running cycle by a search through its continuations.
 //! - [`random`]: seeded random rules and cycles around the critical values.

@@ -29,9 +29,7 @@ impl World {
 
     /// A blank is allowed in every world.
     pub fn has_reading(&self, reading: Option<i32>) -> bool {
-        reading.map_or(true, |value| {
-            (self.least_reading..=self.largest_reading).contains(&value)
-        })
+        reading.is_none_or(|value| (self.least_reading..=self.largest_reading).contains(&value))
     }
 }
 
@@ -203,7 +201,7 @@ impl Rule {
 
     /// "b (1 to 4294967295, or no end)" and "a < b".
     fn has_valid_window(&self) -> bool {
-        self.b.map_or(true, |b| b >= 1 && self.a < b)
+        self.b.is_none_or(|b| b >= 1 && self.a < b)
     }
 }
 

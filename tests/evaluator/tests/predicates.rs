@@ -1,0 +1,122 @@
+//! The finished verdicts once more, with document 01's words as a predicate on
+//! two positions: an eligible pair, the window as a difference of times, and
+//! "no activation of the rule at any position strictly between" as a
+//! quantifier. The evaluator goes by lists of positions and ranges of times.
+
+use evaluator::random::{random_cycle, random_rule, Random};
+use evaluator::Standing::{self, Fulfilled, Idle, Violated};
+use evaluator::{verdicts, Comparison, Event, Operator, Reference, Rule};
+
+fn compares(comparison: &Comparison, tested: &Event, activation: &Event) -> bool {
+    let Some(left) = tested.readings[usize::from(comparison.reading - 1)] else {
+        return false;
+    };
+    let right = match comparison.reference {
+        Reference::Constant(k) => i64::from(k),
+        Reference::Activation { reading, plus } => {
+            match activation.readings[usize::from(reading - 1)] {
+                Some(value) => i64::from(value) + i64::from(plus),
+                None => return false,
+            }
+        }
+    };
+    let left = i64::from(left);
+    match comparison.operator {
+        Operator::Equal => left == right,
+        Operator::NotEqual => left != right,
+        Operator::Less => left < right,
+        Operator::LessOrEqual => left <= right,
+        Operator::Greater => left > right,
+        Operator::GreaterOrEqual => left >= right,
+    }
+}
+
+fn activates(rule: &Rule, event: &Event) -> bool {
+    let mut condition = rule.activation_condition.iter();
+    event.activity == rule.activation && condition.all(|c| compares(c, event, event))
+}
+
+fn fits(rule: &Rule, activation: &Event, event: &Event) -> bool {
+    let difference = event.time.abs_diff(activation.time);
+    let mut correlation = rule.correlation.iter();
+    event.activity == rule.target
+        && correlation.all(|c| compares(c, event, activation))
+        && difference >= rule.a
+        && rule.b.is_none_or(|b| difference < b)
+}
+
+fn is_eligible(rule: &Rule, events: &[Event], i: usize, j: usize) -> bool {
+    let none_between = (1..=events.len())
+        .filter(|k| (i < *k && *k < j) || (j < *k && *k < i))
+        .all(|k| !activates(rule, &events[k - 1]));
+    let admitted = match rule.code {
+        1 | 8 => true,
+        2 | 9 => j >= i,
+        3 => j > i && none_between,
+        4 | 11 => j == i + 1,
+        5 | 10 => j <= i,
+        6 => j < i && none_between,
+        _ => j + 1 == i,
+    };
+    admitted && fits(rule, &events[i - 1], &events[j - 1])
+}
+
+fn by_predicate(rule: &Rule, events: &[Event], i: usize) -> Standing {
+    if !activates(rule, &events[i - 1]) {
+        return Idle;
+    }
+    let found = (1..=events.len()).find(|j| is_eligible(rule, events, i, *j));
+    match (found, rule.code <= 7) {
+        (Some(j), true) => Fulfilled(j as u16),
+        (None, true) => Violated(0),
+        (Some(j), false) => Violated(j as u16),
+        (None, false) => Fulfilled(0),
+    }
+}
+
+/// How many verdicts were compared: not idle, and with a target.
+fn compare(rule: &Rule, events: &[Event]) -> (usize, usize) {
+    let expected: Vec<Standing> = (1..=events.len())
+        .map(|i| by_predicate(rule, events, i))
+        .collect();
+    assert_eq!(verdicts(rule, events), expected, "{rule:?} {events:?}");
+    let judged = expected.iter().filter(|s| **s != Idle);
+    let named = expected
+        .iter()
+        .filter(|s| matches!(s, Fulfilled(1..) | Violated(1..)));
+    (judged.count(), named.count())
+}
+
+#[test]
+fn every_cycle_of_five_events_and_three_activities() {
+    for code in 1..=12 {
+        for target in [1, 2] {
+            for (a, b) in [(0, None), (1, None), (0, Some(2)), (1, Some(3))] {
+                let rule = Rule::new(code, 1, target, a, b);
+                for number in 0..3_u32.pow(5) {
+                    let activity = |at: u32| (number / 3_u32.pow(at) % 3 + 1) as u8;
+                    // The times 0, 0, 1, 1, 2 repeat.
+                    let events: Vec<Event> =
+                        (0..5).map(|at| Event::new(at / 2, activity(at))).collect();
+                    compare(&rule, &events);
+                }
+            }
+        }
+    }
+}
+
+#[test]
+fn random_rules_and_cycles() {
+    let mut random = Random::new(4);
+    let mut judged = 0;
+    let mut named = 0;
+    for _ in 0..20_000 {
+        let rule = random_rule(&mut random);
+        let length = random.below(13);
+        let events = random_cycle(&mut random, std::slice::from_ref(&rule), length);
+        let counts = compare(&rule, &events);
+        judged += counts.0;
+        named += counts.1;
+    }
+    assert!(judged > 20_000 && named > 2_000, "{judged} {named}");
+}
