@@ -86,7 +86,7 @@ not-both Open a b = false≢true a
 not-both (Fulfilled j) a b = false≢true b
 not-both (Violated j) a b = false≢true a
 
-isOpen : Standing → Bool
+unfoldable pub isOpen : Standing → Bool
 isOpen Idle = false
 isOpen Open = true
 isOpen (Fulfilled j) = false

@@ -9,3 +9,4 @@ pub mod Exactness
 pub mod Words
 pub mod EdgeCycles
 pub mod Refusals
+pub mod Steps

@@ -10,6 +10,7 @@ pub mod Templates
 pub mod Verdicts
 pub mod Continuations
 pub mod Reachability
+pub mod Steps
 pub mod Refusals
 pub mod Exactness
 pub mod Words
