@@ -10,3 +10,4 @@ pub mod Words
 pub mod EdgeCycles
 pub mod Refusals
 pub mod Steps
+pub mod Sweeps
