@@ -3,19 +3,53 @@
 //! It states each notion of document 01 a second time, for tests that compare
 //! two answers. Positions count from 1, as in document 01.
 //!
+//! Judging:
+//!
 //! - [`model`]: events, rules, standings and the limits on them ([`World`]).
 //! - [`condition`]: when a comparison holds and a condition is met.
 //! - [`mod@verdict`]: [`verdict()`] and [`verdicts`] judge a finished cycle.
 //! - [`live`]: [`standing`], [`standing_at_last`] and [`standings`] judge a
 //!   running cycle by a search through its continuations.
-//! - [`random`]: seeded random rules and cycles around the critical values.
+//!
+//! The calls, with their refusals:
+//!
+//! - [`refusal`]: [`Refusal`], a number and perhaps a line.
+//! - [`slots`]: rule tables as a caller may fill them ([`TableRecord`]).
+//! - [`record`]: run records as a caller may fill them ([`Record`]), with
+//!   [`start`], take, close, standing and totals.
+//! - [`text`]: the readers and writers of the two texts.
+//! - [`mod@notebook`]: [`notebook()`] judges two texts.
+//! - [`mod@report`]: [`report()`] gives the bytes that the program prints.
+//! - [`tally`]: [`absorb`] adds a closed run to a [`Tally`].
+//!
+//! Generators of test cases, all from a seed:
+//!
+//! - [`random`]: rules and cycles around the critical values.
+//! - [`damage`]: texts, valid and damaged.
+//! - [`fabricate`]: run records, grown and changed.
 
 pub mod condition;
+pub mod damage;
+pub mod fabricate;
 pub mod live;
 pub mod model;
+pub mod notebook;
 pub mod random;
+pub mod record;
+pub mod refusal;
+pub mod report;
+pub mod slots;
+pub mod tally;
+pub mod text;
 pub mod verdict;
 
 pub use live::{outcomes_in, standing, standing_at_last, standing_in, standings};
 pub use model::{is_cycle, Comparison, Event, Operator, Reference, Rule, Standing, World};
+pub use notebook::{notebook, notebook_record, Text};
+pub use record::{grown, place, start, Record, Totals};
+pub use refusal::Refusal;
+pub use report::report;
+pub use slots::{ConditionSlot, EventSlot, RuleSlot, TableRecord};
+pub use tally::{absorb, Tally};
+pub use text::{read_cycle, read_rules, write_cycle, write_rules};
 pub use verdict::{eligible, is_activation, suits, verdict, verdicts};

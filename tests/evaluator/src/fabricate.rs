@@ -1,0 +1,208 @@
+//! Seeded random run records: grown ones, and ones with fields set to edge
+//! values as no call sets them.
+
+use crate::model::{Comparison, Event, Operator, Reference, Standing};
+use crate::random::{random_cycle, random_rules, Random};
+use crate::record::{grown, place, Record};
+use crate::slots::{ConditionSlot, RuleSlot, EVENT_SLOTS, RULE_SLOTS};
+
+/// A part of a record that a change is made in.
+#[derive(Debug, Clone, Copy, PartialEq, Eq, PartialOrd, Ord, Hash)]
+pub enum Part {
+    Standing,
+    EventSlot,
+    EventCount,
+    RuleSlot,
+    RuleCount,
+    Closed,
+}
+
+impl Part {
+    pub const ALL: [Part; 6] = [
+        Part::Standing,
+        Part::EventSlot,
+        Part::EventCount,
+        Part::RuleSlot,
+        Part::RuleCount,
+        Part::Closed,
+    ];
+}
+
+/// A record grown from start with random rules and up to `longest` events, now
+/// and then closed.
+pub fn random_record(random: &mut Random, longest: usize) -> Record {
+    let count = random.pick(&[0, 1, 1, 1, 2, 2, 3, 4]);
+    let rules = random_rules(random, count);
+    let length = random.below(longest + 1);
+    let record = grown(&rules, &random_cycle(random, &rules, length));
+    match random.one_in(3) {
+        true => record.close().0,
+        false => record,
+    }
+}
+
+/// The record with `changes` random changes.
+pub fn fabricated(random: &mut Random, mut record: Record, changes: usize) -> Record {
+    for _ in 0..changes {
+        let parts = [Part::Standing, Part::Standing, Part::EventSlot];
+        let part = match random.one_in(2) {
+            true => random.pick(&parts),
+            false => random.pick(&Part::ALL),
+        };
+        change(random, &mut record, part);
+    }
+    record
+}
+
+/// Sets one field of a part to an edge value; it may be the value it had.
+pub fn change(random: &mut Random, record: &mut Record, part: Part) {
+    match part {
+        Part::Standing => change_standing(random, record),
+        Part::EventSlot => change_event(random, record),
+        Part::EventCount => record.count = edge_count(random, record.count, EVENT_SLOTS as u64),
+        Part::RuleSlot => {
+            let at = near(random, record.table.count, RULE_SLOTS);
+            change_rule(random, &mut record.table.rules[at - 1]);
+        }
+        Part::RuleCount => {
+            record.table.count = edge_count(random, record.table.count, RULE_SLOTS as u64);
+        }
+        Part::Closed => record.closed = !record.closed,
+    }
+}
+
+/// A number from 1 to `slots`, mostly up to `count` and one past it.
+fn near(random: &mut Random, count: u64, slots: usize) -> usize {
+    let count = usize::try_from(count).unwrap_or(slots).min(slots);
+    match random.below(8) {
+        0 => 1 + random.below(slots),
+        1 => slots,
+        2 | 3 => (count + 1).min(slots),
+        _ => 1 + random.below(count.max(1)),
+    }
+}
+
+fn change_standing(random: &mut Random, record: &mut Record) {
+    let rule = near(random, record.table.count, RULE_SLOTS);
+    let position = near(random, record.count, EVENT_SLOTS);
+    let count = record.count as u16;
+    let above = count.saturating_add(1);
+    let target = random.pick(&[0, 0, 1, 1, position as u16, count, above, 256, 257, 65_535]);
+    record.standings[place(rule, position)] = match random.below(4) {
+        0 => Standing::Idle,
+        1 => Standing::Open,
+        2 => Standing::Fulfilled(target),
+        _ => Standing::Violated(target),
+    };
+}
+
+fn change_event(random: &mut Random, record: &mut Record) {
+    let at = near(random, record.count, EVENT_SLOTS) - 1;
+    let neighbour = record.events[random.below(at + 1)].time;
+    let times = [0, neighbour, neighbour.wrapping_sub(1), u32::MAX];
+    match random.below(3) {
+        0 => record.events[at].activity = random.pick(&[0, 1, 1, 2, 2, 3, 64, 65, 255]),
+        1 => record.events[at].time = random.pick(&times),
+        _ => {
+            let values = [None, Some(i32::MIN), Some(0), Some(7), Some(i32::MAX)];
+            record.events[at].readings[random.below(4)] = random.pick(&values);
+        }
+    }
+}
+
+/// Counts beside the limit and the count itself, and such as become small when
+/// cut to 8, 16 or 32 bits.
+fn edge_count(random: &mut Random, count: u64, limit: u64) -> u64 {
+    let wide = random.pick(&[1 << 8, 1 << 16, 1 << 32, 1 << 63]);
+    let small = [0, 1, count.wrapping_sub(1), count.wrapping_add(1)];
+    let large = [limit - 1, limit, limit + 1, u64::MAX, wide, wide | count];
+    match random.one_in(2) {
+        true => random.pick(&small),
+        false => random.pick(&large),
+    }
+}
+
+fn change_rule(random: &mut Random, rule: &mut RuleSlot) {
+    let activities = [0, 1, 2, 3, 64, 65, 255];
+    match random.below(7) {
+        0 => rule.code = random.pick(&[0, 1, 2, 3, 4, 5, 6, 7, 8, 9, 10, 11, 12, 13, 255]),
+        1 => rule.activation = random.pick(&activities),
+        2 => rule.target = random.pick(&activities),
+        3 => rule.a = random.pick(&[0, 1, rule.end.unwrap_or(5), u32::MAX - 1, u32::MAX]),
+        4 => {
+            let ends = [None, Some(0), Some(rule.a), rule.a.checked_add(1)];
+            rule.end = random.pick(&ends);
+        }
+        5 => change_condition(random, &mut rule.activation_condition),
+        _ => change_condition(random, &mut rule.correlation),
+    }
+}
+
+fn change_condition(random: &mut Random, condition: &mut ConditionSlot) {
+    let reading = random.pick(&[0, 1, 2, 3, 4, 5, 255]);
+    let comparison = &mut condition.comparisons[random.below(4)];
+    match random.below(4) {
+        0 => condition.count = random.pick(&[0, 1, 2, 3, 4, 5, 255]),
+        1 => comparison.reading = reading,
+        2 => comparison.operator = random.pick(&Operator::ALL),
+        _ => comparison.reference = random_reference(random),
+    }
+}
+
+fn random_reference(random: &mut Random) -> Reference {
+    let plus = random.pick(&[0, 1, -1, i32::MIN, i32::MAX]);
+    match random.one_in(2) {
+        true => Reference::Constant(plus),
+        false => Reference::Activation {
+            reading: random.pick(&[0, 1, 2, 3, 4, 5, 255]),
+            plus,
+        },
+    }
+}
+
+/// Fills what no call reads with values outside every limit: the slots past
+/// the counts, and the rows of rules that the table does not have. The counts
+/// have to be within their limits.
+pub fn fill_unused(random: &mut Random, record: &mut Record) {
+    let rules = record.table.count as usize;
+    let events = record.count as usize;
+    let outside = Comparison::with_activation(9, Operator::Less, 9, 9);
+    for rule in &mut record.table.rules[..rules] {
+        for condition in [&mut rule.activation_condition, &mut rule.correlation] {
+            let used = usize::from(condition.count);
+            condition.comparisons[used..].fill(outside);
+        }
+    }
+    for rule in &mut record.table.rules[rules..] {
+        rule.code = 0;
+        rule.activation = random.pick(&[0, 65, 255]);
+        rule.correlation.count = 255;
+    }
+    for event in &mut record.events[events..] {
+        *event = Event::new(random.bits() as u32, random.pick(&[0, 65, 255]));
+    }
+    let junk = [
+        Standing::Open,
+        Standing::Fulfilled(300),
+        Standing::Violated(65_535),
+    ];
+    for standing in &mut record.standings[rules * EVENT_SLOTS..] {
+        *standing = random.pick(&junk);
+    }
+}
+
+/// An event to take: mostly the next of a cycle, now and then with a wrong
+/// activity or a time that falls.
+pub fn random_event(random: &mut Random, record: &Record) -> Event {
+    let rules = record.table.rules().unwrap_or_default();
+    let mut event = random_cycle(random, &rules, 1)[0];
+    let taken = usize::try_from(record.count).unwrap_or(0).min(EVENT_SLOTS);
+    let last = record.events[..taken].last().map_or(0, |event| event.time);
+    event.time = last.saturating_add(random.pick(&[0, 0, 1, 100, 500]));
+    match random.below(10) {
+        0 => event.activity = random.pick(&[0, 65, 255]),
+        1 => event.time = last.saturating_sub(1),
+        _ => {}
+    }
+    event
+}

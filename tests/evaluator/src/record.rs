@@ -1,0 +1,208 @@
+//! The run record of document 01, "A running cycle", and its calls.
+//!
+//! A record may be handed in that no call gave back. Cause 11 names what is
+//! wrong in it; every other record is judged by its events, but for the
+//! decided standings, which are kept. The rows of rules that the table does not
+//! have are neither read nor changed.
+
+use crate::live;
+use crate::model::{is_cycle, Event, Rule, Standing, World};
+use crate::refusal::Refusal;
+use crate::slots::{EventSlot, TableRecord, EVENT_SLOTS, RULE_SLOTS};
+
+/// A run: "Each run value carries its own events and standings".
+#[derive(Debug, Clone, PartialEq, Eq)]
+pub struct Record {
+    pub closed: bool,
+    pub table: TableRecord,
+    /// The number of events.
+    pub count: u64,
+    /// 256 slots.
+    pub events: Vec<EventSlot>,
+    /// 16 rows of 256 standings; see [`place`].
+    pub standings: Vec<Standing>,
+}
+
+/// "Totals are four numbers": each the count of such positions.
+#[derive(Debug, Clone, Copy, PartialEq, Eq, Default)]
+pub struct Totals {
+    pub activations: u64,
+    pub fulfilled: u64,
+    pub violated: u64,
+    pub open: u64,
+}
+
+/// Where the standing of a rule (1 to 16) at a position (1 to 256) is kept.
+pub fn place(rule: usize, position: usize) -> usize {
+    (rule - 1) * EVENT_SLOTS + (position - 1)
+}
+
+/// "Start copies the table and gives a run not closed, with no events, each
+/// event slot at time 0, activity 1 and blank readings, each standing idle."
+pub fn start(table: &TableRecord) -> Result<Record, Refusal> {
+    table.rules().ok_or(Refusal::plain(11))?;
+    Ok(Record {
+        closed: false,
+        table: table.clone(),
+        count: 0,
+        events: vec![Event::new(0, 1); EVENT_SLOTS],
+        standings: vec![Standing::Idle; RULE_SLOTS * EVENT_SLOTS],
+    })
+}
+
+/// "Close turns open into violated for 1 to 7, into fulfilled for 8 to 12,
+/// target 0; other standings it keeps."
+fn closed_standing(code: u8, standing: Standing) -> Standing {
+    match standing {
+        Standing::Open if code <= 7 => Standing::Violated(0),
+        Standing::Open => Standing::Fulfilled(0),
+        kept => kept,
+    }
+}
+
+/// Whether a standing within the event count is one that 11 names: "a target
+/// above its event count" or "open in a closed run".
+fn is_wrong_taken(standing: Standing, count: usize, closed: bool) -> bool {
+    match standing {
+        Standing::Idle => false,
+        Standing::Open => closed,
+        Standing::Fulfilled(target) | Standing::Violated(target) => usize::from(target) > count,
+    }
+}
+
+impl Record {
+    /// The rules of the table and the number of events, or refusal 11.
+    fn checked(&self) -> Result<(Vec<Rule>, usize), Refusal> {
+        self.parts_within_limits().ok_or(Refusal::plain(11))
+    }
+
+    fn parts_within_limits(&self) -> Option<(Vec<Rule>, usize)> {
+        let rules = self.table.rules()?;
+        let count = usize::try_from(self.count).ok()?;
+        let events = self.events.get(..count)?;
+        let rows_right = (1..=rules.len()).all(|rule| self.row_is_right(rule, count));
+        (is_cycle(&World::DOCUMENT, events) && rows_right).then_some((rules, count))
+    }
+
+    fn row_is_right(&self, rule: usize, count: usize) -> bool {
+        let (taken, past) = self.row(rule).split_at(count);
+        // "a standing of one of its rules not idle past that count"
+        past.iter().all(|s| *s == Standing::Idle)
+            && !taken.iter().any(|s| is_wrong_taken(*s, count, self.closed))
+    }
+
+    fn row(&self, rule: usize) -> &[Standing] {
+        &self.standings[place(rule, 1)..=place(rule, EVENT_SLOTS)]
+    }
+
+    /// Takes one event. "Take: 11, 9, 3, 7, 8."
+    pub fn take(mut self, event: EventSlot) -> (Record, Result<(), Refusal>) {
+        match self.checked_for_take(&event) {
+            Err(refusal) => (self, Err(refusal)),
+            Ok((rules, count)) => {
+                self.events[count] = event;
+                self.count += 1;
+                self.judge_undecided(&rules, count + 1);
+                (self, Ok(()))
+            }
+        }
+    }
+
+    fn checked_for_take(&self, event: &EventSlot) -> Result<(Vec<Rule>, usize), Refusal> {
+        let (rules, count) = self.checked()?;
+        if self.closed {
+            return Err(Refusal::plain(9));
+        }
+        if !event.is_well_formed(&World::DOCUMENT) {
+            return Err(Refusal::at(3, 0));
+        }
+        // "time below the last taken"
+        let last = self.events[..count].last();
+        if last.is_some_and(|last| event.time < last.time) {
+            return Err(Refusal::at(7, 0));
+        }
+        if count == EVENT_SLOTS {
+            return Err(Refusal::at(8, 0));
+        }
+        Ok((rules, count))
+    }
+
+    /// "At take, decided standings (fulfilled or violated) at taken positions
+    /// are carried over, all others follow from the events now in the record".
+    fn judge_undecided(&mut self, rules: &[Rule], count: usize) {
+        let events = &self.events[..count];
+        for (index, rule) in rules.iter().enumerate() {
+            for position in 1..=count {
+                let standing = &mut self.standings[place(index + 1, position)];
+                if !standing.is_decided() {
+                    *standing = live::standing_at_last(rule, events, position);
+                }
+            }
+        }
+    }
+
+    /// Closes the run. "Close: 11, 9."
+    pub fn close(mut self) -> (Record, Result<(), Refusal>) {
+        match self.checked_for_close() {
+            Err(refusal) => (self, Err(refusal)),
+            Ok((rules, count)) => {
+                for (index, rule) in rules.iter().enumerate() {
+                    for position in 1..=count {
+                        let standing = &mut self.standings[place(index + 1, position)];
+                        *standing = closed_standing(rule.code, *standing);
+                    }
+                }
+                self.closed = true;
+                (self, Ok(()))
+            }
+        }
+    }
+
+    fn checked_for_close(&self) -> Result<(Vec<Rule>, usize), Refusal> {
+        let parts = self.checked()?;
+        match self.closed {
+            true => Err(Refusal::plain(9)),
+            false => Ok(parts),
+        }
+    }
+
+    /// The standing of a rule at a position. "Standing and totals: 11, 10."
+    pub fn standing(&self, rule: u64, position: u64) -> Result<Standing, Refusal> {
+        let (rules, count) = self.checked()?;
+        let rule = known(rule, rules.len())?;
+        let position = known(position, count)?;
+        Ok(self.standings[place(rule, position)])
+    }
+
+    /// The totals of a rule: "activations (positions not idle ..), fulfilled,
+    /// violated, open, each the count of such positions".
+    pub fn totals(&self, rule: u64) -> Result<Totals, Refusal> {
+        let (rules, count) = self.checked()?;
+        let taken = &self.row(known(rule, rules.len())?)[..count];
+        let number = |such: fn(&Standing) -> bool| taken.iter().filter(|s| such(s)).count() as u64;
+        Ok(Totals {
+            activations: number(|s| *s != Standing::Idle),
+            fulfilled: number(|s| s.is_fulfilled()),
+            violated: number(|s| s.is_violated()),
+            open: number(|s| *s == Standing::Open),
+        })
+    }
+}
+
+/// "no such rule or position": rules and positions count from 1.
+fn known(number: u64, count: usize) -> Result<usize, Refusal> {
+    (1..=count)
+        .find(|known| *known as u64 == number)
+        .ok_or(Refusal::plain(10))
+}
+
+/// The run that takes these events in turn from start. All calls have to be
+/// accepted.
+pub fn grown(rules: &[Rule], events: &[Event]) -> Record {
+    let run = start(&TableRecord::of(rules)).expect("a valid table");
+    events.iter().fold(run, |run, event| {
+        let (next, answer) = run.take(*event);
+        answer.expect("a valid event");
+        next
+    })
+}

@@ -1,0 +1,24 @@
+//! The refusals of document 01, "When a call is refused".
+
+/// A refusal as the table's column "Returned" has it: a number, and a line
+/// where the column names one. From take the line of 3, 7 and 8 is 0.
+#[derive(Debug, Clone, Copy, PartialEq, Eq, PartialOrd, Ord, Hash)]
+pub struct Refusal {
+    pub number: u8,
+    pub line: Option<usize>,
+}
+
+impl Refusal {
+    /// A refusal for which the table returns the number alone.
+    pub const fn plain(number: u8) -> Refusal {
+        Refusal { number, line: None }
+    }
+
+    /// A refusal for which the table returns "number, line".
+    pub const fn at(number: u8, line: usize) -> Refusal {
+        Refusal {
+            number,
+            line: Some(line),
+        }
+    }
+}

@@ -1,0 +1,263 @@
+//! Records with fields set as no call sets them: which are refused with 11, and
+//! what the accepted calls change.
+
+use evaluator::fabricate::{fabricated, fill_unused, random_event, random_record};
+use evaluator::random::Random;
+use evaluator::Standing::{self, Fulfilled, Idle, Open, Violated};
+use evaluator::{absorb, place, start, verdicts, ConditionSlot, Record, Reference, Refusal};
+use evaluator::{RuleSlot, Tally};
+use std::collections::BTreeMap;
+
+const OUTSIDE: Refusal = Refusal::plain(11);
+
+/// What 11 names in one condition.
+fn wrong_condition(slot: &ConditionSlot, correlation: bool) -> bool {
+    if slot.count > 4 {
+        return true;
+    }
+    let mut compared = [false; 256];
+    for comparison in &slot.comparisons[..slot.count as usize] {
+        let wrong_reference = match comparison.reference {
+            Reference::Constant(_) => false,
+            Reference::Activation { reading, .. } => !correlation || !(1..=4).contains(&reading),
+        };
+        let reading = comparison.reading as usize;
+        if wrong_reference || !(1..=4).contains(&reading) || compared[reading] {
+            return true;
+        }
+        compared[reading] = true;
+    }
+    false
+}
+
+fn wrong_rule(rule: &RuleSlot) -> bool {
+    rule.code == 0
+        || rule.code > 12
+        || rule.activation == 0
+        || rule.activation > 64
+        || rule.target == 0
+        || rule.target > 64
+        || rule.end.is_some_and(|end| end <= rule.a)
+        || wrong_condition(&rule.activation_condition, false)
+        || wrong_condition(&rule.correlation, true)
+}
+
+fn wrong_table(record: &Record) -> bool {
+    let count = record.table.count;
+    count > 16 || record.table.rules[..count as usize].iter().any(wrong_rule)
+}
+
+fn wrong_events(record: &Record) -> bool {
+    let events = &record.events[..record.count as usize];
+    let wrong_activity = events.iter().any(|e| e.activity == 0 || e.activity > 64);
+    let mut sorted: Vec<u32> = events.iter().map(|event| event.time).collect();
+    sorted.sort();
+    wrong_activity || events.iter().map(|event| event.time).ne(sorted)
+}
+
+fn wrong_standing(record: &Record, position: u64, standing: Standing) -> bool {
+    match standing {
+        Idle => false,
+        _ if position > record.count => true,
+        Open => record.closed,
+        Fulfilled(target) | Violated(target) => u64::from(target) > record.count,
+    }
+}
+
+/// Cause 11, as one question after the other.
+fn is_outside(record: &Record) -> bool {
+    if wrong_table(record) || record.count > 256 || wrong_events(record) {
+        return true;
+    }
+    (1..=record.table.count as usize).any(|rule| {
+        (1..=256).any(|position| {
+            let standing = record.standings[place(rule, position)];
+            wrong_standing(record, position as u64, standing)
+        })
+    })
+}
+
+fn random_fabricated(random: &mut Random) -> Record {
+    let mut record = random_record(random, 7);
+    if random.one_in(3) {
+        fill_unused(random, &mut record);
+    }
+    let changes = random.pick(&[0, 1, 1, 1, 2, 3]);
+    fabricated(random, record, changes)
+}
+
+#[test]
+fn every_call_refuses_the_same_records_with_11() {
+    let mut random = Random::new(41);
+    let mut seen = [0; 2];
+    for _ in 0..4000 {
+        let record = random_fabricated(&mut random);
+        let outside = is_outside(&record);
+        seen[usize::from(outside)] += 1;
+        let event = random_event(&mut random, &record);
+        let mut tally = Tally::default();
+        let rule = random.bits() % 4;
+        let answers = [
+            record.clone().take(event).1.err(),
+            record.clone().close().1.err(),
+            record.standing(rule, random.bits() % 9).err(),
+            record.totals(rule).err(),
+            absorb(&record, rule, &mut tally).err(),
+        ];
+        for answer in answers {
+            assert_eq!(answer == Some(OUTSIDE), outside, "{answers:?}");
+        }
+        assert_eq!(start(&record.table).is_err(), wrong_table(&record));
+    }
+    assert!(seen.iter().all(|count| *count > 1000), "{seen:?}");
+}
+
+#[test]
+fn refusals_of_take_come_in_their_order() {
+    let mut random = Random::new(42);
+    let mut seen: BTreeMap<Option<Refusal>, usize> = BTreeMap::new();
+    for _ in 0..4000 {
+        let record = random_fabricated(&mut random);
+        let event = random_event(&mut random, &record);
+        let last = match record.count {
+            1..=256 => record.events[record.count as usize - 1].time,
+            _ => 0,
+        };
+        let expected = if is_outside(&record) {
+            Some(OUTSIDE)
+        } else if record.closed {
+            Some(Refusal::plain(9))
+        } else if event.activity == 0 || event.activity > 64 {
+            Some(Refusal::at(3, 0))
+        } else if event.time < last {
+            Some(Refusal::at(7, 0))
+        } else if record.count == 256 {
+            Some(Refusal::at(8, 0))
+        } else {
+            None
+        };
+        let (next, answer) = record.clone().take(event);
+        assert_eq!(answer.err(), expected);
+        assert!(answer.is_ok() || next == record);
+        *seen.entry(expected).or_default() += 1;
+    }
+    let numbers: Vec<u8> = seen
+        .keys()
+        .flatten()
+        .map(|refusal| refusal.number)
+        .collect();
+    assert_eq!(numbers, [3, 7, 8, 9, 11], "{seen:?}");
+    assert!(seen[&None] > 500, "{seen:?}");
+}
+
+/// What an accepted take may change: the count, one event slot, and the
+/// undecided standings of the table's rules up to the new count.
+#[test]
+fn take_changes_nothing_else() {
+    let mut random = Random::new(43);
+    let mut accepted = 0;
+    for _ in 0..3000 {
+        let before = random_fabricated(&mut random);
+        let event = random_event(&mut random, &before);
+        let (after, answer) = before.clone().take(event);
+        if answer.is_err() {
+            continue;
+        }
+        accepted += 1;
+        let mut expected = before.clone();
+        expected.events[before.count as usize] = event;
+        expected.count += 1;
+        for rule in 1..=before.table.count as usize {
+            for position in 1..=expected.count as usize {
+                let at = place(rule, position);
+                if !before.standings[at].is_decided() {
+                    expected.standings[at] = after.standings[at];
+                }
+            }
+        }
+        assert!(after == expected);
+    }
+    assert!(accepted > 500, "{accepted}");
+}
+
+/// Without decided standings a record is judged by its events alone: closing it
+/// after a take gives the verdicts of the finished cycle.
+#[test]
+fn undecided_records_close_with_the_finished_verdicts() {
+    let mut random = Random::new(44);
+    let mut judged = 0;
+    for _ in 0..3000 {
+        let mut record = random_fabricated(&mut random);
+        for standing in &mut record.standings {
+            let undecided = random.pick(&[Idle, Open]);
+            *standing = if standing.is_decided() {
+                undecided
+            } else {
+                *standing
+            };
+        }
+        let event = random_event(&mut random, &record);
+        let (next, answer) = record.take(event);
+        if answer.is_err() {
+            continue;
+        }
+        let (closed, answer) = next.close();
+        assert_eq!(answer, Ok(()));
+        let events = &closed.events[..closed.count as usize];
+        let rules = closed.table.rules().expect("a valid table");
+        for (index, rule) in rules.iter().enumerate() {
+            let first = place(index + 1, 1);
+            let row = &closed.standings[first..first + events.len()];
+            assert_eq!(row, verdicts(rule, events), "{rule:?} {events:?}");
+            judged += events.len();
+        }
+    }
+    assert!(judged > 1000, "{judged}");
+}
+
+#[test]
+fn totals_and_tally_agree_with_the_standings() {
+    let mut random = Random::new(45);
+    let mut counted = 0;
+    for _ in 0..2000 {
+        let record = random_fabricated(&mut random);
+        if is_outside(&record) {
+            continue;
+        }
+        for rule in 1..=record.table.count {
+            let row: Vec<Standing> = (1..=record.count)
+                .map(|position| record.standing(rule, position).expect("a standing"))
+                .collect();
+            let totals = record.totals(rule).expect("totals");
+            let number = |kind: fn(Standing) -> bool| row.iter().filter(|s| kind(**s)).count();
+            assert_eq!(totals.open, number(|s| s == Open) as u64);
+            assert_eq!(totals.fulfilled, number(Standing::is_fulfilled) as u64);
+            assert_eq!(totals.violated, number(Standing::is_violated) as u64);
+            let sum = totals.fulfilled + totals.violated + totals.open;
+            assert_eq!(totals.activations, sum);
+            let mut tally = Tally::default();
+            let absorbed = absorb(&record, rule, &mut tally).is_ok();
+            assert_eq!(absorbed, record.closed);
+            let expected = if absorbed {
+                (1, totals.activations)
+            } else {
+                (0, 0)
+            };
+            assert_eq!((tally.cycles, u64::from(tally.activations)), expected);
+            counted += row.len();
+        }
+    }
+    assert!(counted > 1000, "{counted}");
+}
+
+#[test]
+fn the_same_seed_gives_the_same_records() {
+    let records = |seed| {
+        let mut random = Random::new(seed);
+        (0..20)
+            .map(|_| random_fabricated(&mut random))
+            .collect::<Vec<_>>()
+    };
+    assert!(records(46) == records(46));
+    assert!(records(46) != records(47));
+}
