@@ -128,8 +128,10 @@ unfolding mapFrom
 length-map-from f k [] = refl
 length-map-from f k (x ∷ xs) = ap suc (length-map-from f (suc k) xs)
 
--- two changes that agree at every place
-pub map-from-same : {A : Type 0} (f g : ℕ → A → A) (k : ℕ) (l : List A) → ((i : ℕ) (x : A) → f i x ≡ g i x) → mapFrom f k l ≡ mapFrom g k l
+-- two changes that agree at every place of the list
+pub map-from-same : {A : Type 0} (f g : ℕ → A → A) (k : ℕ) (l : List A) → ((i : ℕ) → k ≤ i → i < k + length l → (x : A) → f i x ≡ g i x) → mapFrom f k l ≡ mapFrom g k l
 unfolding mapFrom
 map-from-same f g k [] e = refl
-map-from-same {A} f g k (x ∷ xs) e = ap₂ (λ (y : A) (t : List A). y ∷ t) (e k x) (map-from-same f g (suc k) xs e)
+map-from-same {A} f g k (x ∷ xs) e =
+    ap₂ (λ (y : A) (t : List A). y ∷ t) (e k (omega arith) (omega arith) x)
+    (map-from-same f g (suc k) xs (λ i a b. e i (omega arith) (omega arith)))

@@ -1,0 +1,2 @@
+-- A rule bound to one activation.
+pub mod Bound

@@ -1,0 +1,112 @@
+// A rule bound to one activation: its references made numbers once, for every event that is then tried.
+ghost use mathlib.Core.Path.{_≡_};
+ghost use Rattle.declare.specs.Lists.{all};
+ghost use Rattle.declare.specs.Comparisons.{passes};
+ghost use Rattle.declare.specs.Suits.{suits};
+ghost use Rattle.condition.specs.Bound.{testList, testsFor, boundOf, fitsOf};
+use crate::comparison::passes;
+use crate::comparison::test_of;
+use crate::window::between;
+use crate::window::within;
+use declare::Condition;
+use declare::Event;
+use declare::Rule;
+use declare::Test;
+use declare::Window;
+
+// The first `count` of four tests.
+pub struct Tests {
+    pub count: u8,
+    pub first: Test,
+    pub second: Test,
+    pub third: Test,
+    pub fourth: Test,
+}
+
+// What a rule asks of a target, for an activation at `time`.
+pub struct Bound {
+    pub target: u8,
+    pub time: u32,
+    pub window: Window,
+    pub tests: Tests,
+}
+
+// A condition for the activation a; the tests past the count are made too, and never tried.
+fn tests_for(a: Event, c: Condition) -> Tests
+    ensures { λ r. ⌜ r ≡ testsFor a c ⌝ }
+{
+    let first = test_of(a, c.first);
+    let second = test_of(a, c.second);
+    let third = test_of(a, c.third);
+    let fourth = test_of(a, c.fourth);
+    Tests {
+        count: c.count,
+        first: first,
+        second: second,
+        third: third,
+        fourth: fourth,
+    }
+}
+
+// The rule bound to the activation a.
+pub fn bound_of(rule: Rule, a: Event) -> Bound
+    ensures { λ r. ⌜ r ≡ boundOf rule a ⌝ }
+{
+    let window = rule.window;
+    let tests = tests_for(a, rule.correlation);
+    Bound {
+        target: rule.target,
+        time: a.time,
+        window: window,
+        tests: tests,
+    }
+}
+
+// Whether e passes the tests: up to the first that it does not pass.
+fn all_pass(e: Event, tests: Tests) -> bool
+    ensures { λ r. ⌜ r ≡ all (passes e) (testList tests) ⌝ }
+{
+    let count = tests.count;
+    if count < 1 {
+        return true;
+    }
+    if !passes(e, tests.first) {
+        return false;
+    }
+    if count < 2 {
+        return true;
+    }
+    if !passes(e, tests.second) {
+        return false;
+    }
+    if count < 3 {
+        return true;
+    }
+    if !passes(e, tests.third) {
+        return false;
+    }
+    if count < 4 {
+        return true;
+    }
+    passes(e, tests.fourth)
+}
+
+// Whether e suits the activation that the rule is bound to; what costs least is tried first.
+pub fn fits(bound: Bound, e: Event) -> bool
+    ensures { λ r. ⌜ r ≡ fitsOf bound e ⌝ }
+{
+    if e.activity != bound.target {
+        return false;
+    }
+    if !within(bound.window, between(bound.time, e.time)) {
+        return false;
+    }
+    all_pass(e, bound.tests)
+}
+
+// Whether e suits the activation a.
+pub fn suits(rule: Rule, a: Event, e: Event) -> bool
+    ensures { λ r. ⌜ r ≡ suits rule a e ⌝ }
+{
+    fits(bound_of(rule, a), e)
+}

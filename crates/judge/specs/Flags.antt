@@ -1,0 +1,20 @@
+-- Which events are activations of which rule, at the places of the cells.
+use mathlib.Core.Bool.{Bool, false, cond}
+use mathlib.Core.List.{List}
+use Prim.Native.Nat.{ℕ, _+_, _-_, _/_, _%_}
+use lib.ListN.{getD}
+use Rattle.declare.specs.declared.Event.{Event}
+use Rattle.declare.specs.declared.Rule.{Rule}
+use Rattle.declare.specs.Events.{noEvent}
+use Rattle.declare.specs.Rules.{noRule}
+use Rattle.declare.specs.Suits.{isActivation}
+use Rattle.judge.specs.Cells.{inUse}
+
+-- the flag at place j
+unfoldable pub flagged : List Rule → ℕ → List Event → ℕ → ℕ → Bool → Bool
+flagged rules count events n j x =
+    cond (inUse count n j) (isActivation (getD rules (j / 256) noRule) (getD events (j % 256) noEvent)) x
+
+-- the flag of position j, in the row that begins at place base
+unfoldable pub flagIn : List Bool → ℕ → ℕ → Bool
+flagIn flags base j = getD flags (base + (j - 1)) false

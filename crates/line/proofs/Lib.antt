@@ -1,0 +1,6 @@
+-- The laws of lines, fields and texts, for this crate and those above it.
+pub mod Fields
+pub mod Joined
+pub mod Values
+pub mod Texts
+pub mod Vectors

@@ -1,0 +1,21 @@
+-- What one pass over a line, and one over a field, find.
+use mathlib.Core.Bool.{cond}
+use mathlib.Core.List.{List}
+use Prim.Native.Nat.{ℕ}
+use Rattle.number.specs.Reader.{after, integerIn, dashIn}
+use Rattle.line.specs.Types.{Reading, Blank, Reader, Empty, LineScan, FieldScan}
+use Rattle.line.specs.Fields.{LF, indexOf, before, countOf}
+use Rattle.line.specs.Answers.{Answer, Of}
+use Rattle.line.specs.Values.{integerAnswer}
+
+-- where the line ends with which the text begins, and how many separators it has
+unfoldable pub lineScan : ℕ → List ℕ → LineScan
+lineScan separator text = record { end = indexOf LF text; separators = countOf separator (before LF text) }
+
+-- the number reader over the field with which the part begins, and the field's length
+unfoldable pub fieldScan : ℕ → List ℕ → FieldScan
+fieldScan separator part = record { reader = after Empty (before separator part); length = indexOf separator part }
+
+-- a reader's answer as a reading
+unfoldable pub readingBy : Reader → Answer Reading
+readingBy reader = cond (dashIn reader) (Of Blank) (integerAnswer (integerIn reader))

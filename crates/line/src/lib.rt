@@ -1,0 +1,177 @@
+// Lines and fields: each function is handed the part of the text that begins at the line or the field, and goes over its bytes once.
+ghost use mathlib.Core.Path.{_≡_};
+ghost use lib.ListN.{getD, take, drop};
+ghost use Rattle.line.specs.Fields.{indexOf, before};
+ghost use Rattle.line.specs.Scans.{lineScan, fieldScan, readingBy};
+ghost use Rattle.line.specs.Values.{faultNumber, naturalAnswer, numberField, readingField, numberRead, readingRead};
+ghost use Rattle.declare.specs.Refusals.{numberOf};
+ghost use Rattle.number.specs.Reader.{naturalIn};
+use declare::Reading;
+use declare::Refusal;
+use number::Fault;
+use number::IntegerAnswer;
+use number::NaturalAnswer;
+use number::Reader;
+
+// Whether a text was accepted; if not, why and at which line.
+pub enum Outcome {
+    Accepted,
+    Refused(Refusal, usize),
+}
+
+pub struct LineScan {
+    pub end: usize,
+    pub separators: usize,
+}
+
+// Where LF ends the first line, or the text's length; and the separators before it.
+pub fn scan_line(text: &[u8], separator: u8) -> LineScan
+    ensures { λ r. ⌜ r ≡ lineScan separator (now (text .entry)) ⌝ }
+{
+    let mut separators: usize = 0;
+    let mut i = 0;
+    while i < text.len() {
+        if text[i] == 10 {
+            return LineScan { end: i, separators };
+        }
+        if text[i] == separator {
+            separators += 1;
+        }
+        i += 1;
+    }
+    LineScan { end: i, separators }
+}
+
+// Where `byte` stands first, or the length.
+pub fn find(s: &[u8], byte: u8) -> usize
+    ensures { λ r. ⌜ r ≡ indexOf byte (now (s .entry)) ⌝ }
+{
+    let mut i = 0;
+    while i < s.len() {
+        if s[i] == byte {
+            return i;
+        }
+        i += 1;
+    }
+    i
+}
+
+pub struct FieldScan {
+    pub reader: Reader,
+    pub length: usize,
+}
+
+// The number reader over the first field, which ends at the separator or with the part.
+pub fn scan_field(part: &[u8], separator: u8) -> FieldScan
+    ensures { λ r. ⌜ r ≡ fieldScan separator (now (part .entry)) ⌝ }
+{
+    let mut reader = Reader::new();
+    let mut i = 0;
+    while i < part.len() {
+        if part[i] == separator {
+            return FieldScan { reader, length: i };
+        }
+        reader = reader.push(part[i]);
+        i += 1;
+    }
+    FieldScan { reader, length: i }
+}
+
+fn refusal_of(fault: Fault) -> Refusal
+    ensures { λ r. ⌜ numberOf r ≡ faultNumber fault ⌝ }
+{
+    match fault {
+        Fault::Form => Refusal::NumberForm,
+        Fault::Range => Refusal::OutOfRange,
+    }
+}
+
+pub enum NumberAnswer {
+    Number(u32),
+    NoNumber(Refusal),
+}
+
+pub struct NumberField {
+    pub answer: NumberAnswer,
+    pub length: usize,
+}
+
+fn number_answer(reader: Reader, low: u32, high: u32) -> NumberAnswer
+    ensures { λ r. ⌜ numberRead r ≡ naturalAnswer (naturalIn low high reader) ⌝ }
+{
+    match reader.natural(low, high) {
+        NaturalAnswer::Natural(value) => NumberAnswer::Number(value),
+        NaturalAnswer::NoNatural(fault) => NumberAnswer::NoNumber(refusal_of(fault)),
+    }
+}
+
+// The first field as an unsigned number from `low` to `high`.
+pub fn number_field(part: &[u8], separator: u8, low: u32, high: u32) -> NumberField
+    ensures { λ r. ⌜ numberRead (r .answer) ≡ numberField low high (before separator (now (part .entry))) ⌝ }
+    ensures { λ r. ⌜ r .length ≡ indexOf separator (now (part .entry)) ⌝ }
+{
+    let scan = scan_field(part, separator);
+    let reader = scan.reader;
+    let answer = number_answer(reader, low, high);
+    NumberField {
+        answer,
+        length: scan.length,
+    }
+}
+
+pub enum ReadingAnswer {
+    Read(Reading),
+    NoReading(Refusal),
+}
+
+pub struct ReadingField {
+    pub answer: ReadingAnswer,
+    pub length: usize,
+}
+
+fn reading_answer(reader: Reader) -> ReadingAnswer
+    ensures { λ r. ⌜ readingRead r ≡ readingBy reader ⌝ }
+{
+    if reader.is_dash() {
+        return ReadingAnswer::Read(Reading::Blank);
+    }
+    match reader.integer() {
+        IntegerAnswer::Integer(value) => ReadingAnswer::Read(Reading::Value(value)),
+        IntegerAnswer::NoInteger(fault) => ReadingAnswer::NoReading(refusal_of(fault)),
+    }
+}
+
+// The first field as a reading.
+pub fn reading_field(part: &[u8], separator: u8) -> ReadingField
+    ensures { λ r. ⌜ readingRead (r .answer) ≡ readingField (before separator (now (part .entry))) ⌝ }
+    ensures { λ r. ⌜ r .length ≡ indexOf separator (now (part .entry)) ⌝ }
+{
+    let scan = scan_field(part, separator);
+    let reader = scan.reader;
+    let answer = reading_answer(reader);
+    ReadingField {
+        answer,
+        length: scan.length,
+    }
+}
+
+// What stands at `i`, or 0 past the end.
+pub fn byte_at(s: &[u8], i: usize) -> u8
+    ensures { λ r. ⌜ r ≡ getD (now (s .entry)) i 0 ⌝ }
+{
+    if i < s.len() { s[i] } else { 0 }
+}
+
+// The part from `i` on, empty past the end.
+pub fn part_from(s: &[u8], i: usize) -> &[u8]
+    ensures { λ r. ⌜ now r ≡ drop i (now (s .entry)) ⌝ }
+{
+    if i <= s.len() { &s[i..] } else { &s[..0] }
+}
+
+// The part before `i`, or all of it.
+pub fn part_before(s: &[u8], i: usize) -> &[u8]
+    ensures { λ r. ⌜ now r ≡ take i (now (s .entry)) ⌝ }
+{
+    if i <= s.len() { &s[..i] } else { s }
+}

@@ -1,0 +1,7 @@
+-- The laws of numbers, for this crate and those above it.
+pub mod Digits
+pub mod Signed
+pub mod Answers
+pub mod Written
+pub mod Quoted
+pub mod Vectors
