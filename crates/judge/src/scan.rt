@@ -126,12 +126,12 @@ pub fn next_activation(flags: &[bool; 4096], base: usize, i: usize, n: usize) ->
     requires { ⌜ base + n ≤ 4096 ⌝ }
     ensures { λ r. ⌜ r ≡ nextPast (flagIn (now (flags .entry)) base) i n ⌝ }
 {
-    let mut q = i;
-    while q < n {
-        if flags[base + q] {
-            return q + 1;
+    let mut k = i;
+    while k < n {
+        if flags[base + k] {
+            return k + 1;
         }
-        q += 1;
+        k += 1;
     }
     n + 1
 }

@@ -1,0 +1,3 @@
+-- Laws of the formulas.
+pub mod Agreement
+pub mod Letter
