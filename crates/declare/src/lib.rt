@@ -1,6 +1,8 @@
 // The types of ride cycles and their rules, all by value.
 //
 // The first variant of each enum is the value that the logic takes past a list's end.
+ghost use mathlib.Core.Path.{_≡_};
+ghost use Rattle.declare.specs.Refusals.{numberOf};
 
 // A reading of an event.
 pub enum Reading {
@@ -138,4 +140,26 @@ pub enum Refusal {
     NoLineEnd,
     NoFile,
     TallyOverflow,
+}
+
+// Document 01's number of a refusal.
+pub fn number_of(refusal: Refusal) -> u8
+    ensures { λ r. ⌜ r ≡ numberOf refusal ⌝ }
+{
+    match refusal {
+        Refusal::FieldCount => 1,
+        Refusal::NumberForm => 2,
+        Refusal::OutOfRange => 3,
+        Refusal::ComparisonForm => 4,
+        Refusal::ReadingTwice => 5,
+        Refusal::EmptyWindow => 6,
+        Refusal::TimeFalls => 7,
+        Refusal::TooMany => 8,
+        Refusal::WrongPhase => 9,
+        Refusal::NotFound => 10,
+        Refusal::InvalidRecord => 11,
+        Refusal::NoLineEnd => 12,
+        Refusal::NoFile => 13,
+        Refusal::TallyOverflow => 14,
+    }
 }

@@ -9,7 +9,7 @@ use borrow.Author.Tests.{eq-eqb, ne-eqb, eqb-true, lt-ltb, le-ltb, ltb-true, ltb
 use lib.Dec.{eqb, ltb, leb·suc-suc}
 use lib.ListN.{length, getD, take, drop, length-drop}
 use lib.Seq.{drop-cons, take-all}
-use Rattle.line.specs.Fields.{indexOf, before, countOf, onto, split, eachAfter, joined}
+use Rattle.line.specs.Fields.{indexOf, before, following, countOf, onto, split, eachAfter, joined}
 
 -- the part of a slice from a on, as the borrow checker states it
 pub part-rest : (s : List ℕ) (a : ℕ) → take (length s - a) (drop a s) ≡ drop a s
@@ -105,15 +105,28 @@ length-before b (x ∷ s) = go (eqb x b) refl (length-before b s)
     go true e h = rw e
     go false e h = rw e (ap suc h)
 
+-- the part of a slice from the byte after the first b on, as the borrow checker states it
+pub part-following : (b : ℕ) (s : List ℕ) (l : ℕ) → l ≡ indexOf b s → take (length s - (l + 1)) (drop (l + 1) s) ≡ following b s
+unfolding following
+part-following b s l h = rw h (part-rest s (indexOf b s + 1))
+
+following-first : (b x : ℕ) (s : List ℕ) → eqb x b ≡ true → following b (x ∷ s) ≡ s
+unfolding following
+following-first b x s e = rw (index-first b x s e)
+
+following-later : (b x : ℕ) (s : List ℕ) → eqb x b ≡ false → following b (x ∷ s) ≡ following b s
+unfolding following
+following-later b x s e = rw (index-later b x s e, add-one, add-one)
+
 -- the bridge between index and list
-pub parts : (b : ℕ) (s : List ℕ) → split b s ≡ before b s ∷ cond (ltb (indexOf b s) (length s)) (split b (drop (suc (indexOf b s)) s)) []
+pub parts : (b : ℕ) (s : List ℕ) → split b s ≡ before b s ∷ cond (ltb (indexOf b s) (length s)) (split b (following b s)) []
 unfolding before indexOf split onto
 parts b [] = refl
 parts b (x ∷ s) = go (eqb x b) refl (parts b s)
   where
-    go : (t : Bool) → eqb x b ≡ t → split b s ≡ before b s ∷ cond (ltb (indexOf b s) (length s)) (split b (drop (suc (indexOf b s)) s)) [] → split b (x ∷ s) ≡ before b (x ∷ s) ∷ cond (ltb (indexOf b (x ∷ s)) (length (x ∷ s))) (split b (drop (suc (indexOf b (x ∷ s))) (x ∷ s))) []
-    go true e h = simp (e, lt-ltb 0 (suc (length s)) (omega arith))
-    go false e h = simp (e, leb·suc-suc) (ap (onto x) h)
+    go : (t : Bool) → eqb x b ≡ t → split b s ≡ before b s ∷ cond (ltb (indexOf b s) (length s)) (split b (following b s)) [] → split b (x ∷ s) ≡ before b (x ∷ s) ∷ cond (ltb (indexOf b (x ∷ s)) (length (x ∷ s))) (split b (following b (x ∷ s))) []
+    go true e h = simp (following-first b x s e, e, lt-ltb 0 (suc (length s)) (omega arith))
+    go false e h = simp (following-later b x s e, e, leb·suc-suc) (ap (onto x) h)
 
 length-onto : (x : ℕ) (l : List (List ℕ)) → length (onto x l) ≡ length l
 unfolding onto
@@ -137,11 +150,11 @@ count-parts b (x ∷ s) = go (eqb x b) refl (count-parts b s)
 -- ---- the fields of a line, of which what follows it is not cut off
 
 -- a first field that is not the last: b stands before the line's end e
-pub record First (e b : ℕ) (s : List ℕ) : Type 0 where
-  pub index : indexOf b s < indexOf e s
-  pub fields : split b (before e s) ≡ before b s ∷ split b (before e (drop (suc (indexOf b s)) s))
+record First (e b : ℕ) (s : List ℕ) : Type 0 where
+  index : indexOf b s < indexOf e s
+  fields : split b (before e s) ≡ before b s ∷ split b (before e (following b s))
 
-pub first-field : (e b : ℕ) (s : List ℕ) → 1 < length (split b (before e s)) → First e b s
+first-field : (e b : ℕ) (s : List ℕ) → 1 < length (split b (before e s)) → First e b s
 unfolding split before
 first-field e b [] h = absurd (omega arith)
 first-field e b (x ∷ s) h = go (eqb x e) (eqb x b) refl refl h (first-field e b s)
@@ -151,15 +164,30 @@ first-field e b (x ∷ s) h = go (eqb x e) (eqb x b) refl refl h (first-field e 
     go false true p q l f =
         record {
           index = rw (index-first b x s q, index-later e x s p) (omega arith);
-          fields = rw (p, q, index-first b x s q);
+          fields = rw (following-first b x s q, p, q);
         }
     go false false p q l f =
         let g : 1 < length (split b (before e s)) = rw (p, q, length-onto x (split b (before e s))) at l in
         let w = f g in
         record {
           index = rw (index-later b x s q, index-later e x s p) (omega (arith, w .index));
-          fields = rw (p, q, index-later b x s q) (ap (onto x) (w .fields) ∙ onto-cons x _ _);
+          fields = rw (following-later b x s q, p, q) (ap (onto x) (w .fields) ∙ onto-cons x _ _);
         }
+
+-- in a line of n fields more: b stands in the text, before the n
+pub record Next (e b n : ℕ) (s : List ℕ) : Type 0 where
+  pub index : indexOf b s + 1 ≤ length s
+  pub fields : split b (before e s) ≡ before b s ∷ split b (before e (following b s))
+  pub left : length (split b (before e (following b s))) ≡ n
+
+pub next-field : (e b n : ℕ) (s : List ℕ) → length (split b (before e s)) ≡ suc n → 0 < n → Next e b n s
+next-field e b n s h l =
+    let f = first-field e b s (omega arith) in
+    record {
+      index = omega (arith, f .index, index-le e s);
+      fields = f .fields;
+      left = omega (arith, rw (f .fields) at h);
+    }
 
 -- the last field is all of the line
 pub last-field : (b : ℕ) (s : List ℕ) → length (split b s) ≡ 1 → split b s ≡ s ∷ []

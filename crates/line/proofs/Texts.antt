@@ -3,16 +3,15 @@
 use mathlib.Core.Path.{_≡_, refl, sym, _∙_, ap}
 use mathlib.Core.Bool.{Bool, true, false, cond}
 use mathlib.Core.List.{List, [], _∷_, _++_, append-nil, append-assoc}
-use Prim.Native.Nat.{ℕ, suc, _+_, _≤_, _<_}
+use Prim.Native.Nat.{ℕ, _<_}
 use native.Mathlib.Omega.{arith}
-use native.Mathlib.Numerals.{add-one}
 use borrow.Author.Tests.{ltb-false}
 use lib.Dec.{ltb}
-use lib.ListN.{length, take, drop}
+use lib.ListN.{length, take}
 use lib.Seq.{take-all}
 use Rattle.declare.specs.Lists.{all}
 use Rattle.number.specs.Number.{none}
-use Rattle.line.specs.Fields.{LF, tab, indexOf, before, split, eachAfter, joined}
+use Rattle.line.specs.Fields.{LF, tab, indexOf, before, following, split, eachAfter, joined}
 use Rattle.line.specs.Answers.{Answer, Of, No, _>>=_}
 use Rattle.line.specs.Texts.{Records, All, Stop, lineAfter, continued, linesOf, textOf, lineOf, writtenLine, writtenText}
 use Rattle.line.proofs.Fields.{before-take, parts}
@@ -81,14 +80,14 @@ module _ {A : Type 0} (recordOf : List A → List (List ℕ) → Answer A) where
   unfolding linesOf
   lines-last above s h = rw (some s h)
 
-  pub text-step : (above : List A) (s : List ℕ) → 0 < length s → linesOf recordOf above (split LF s) ≡ continued above (lineOf (recordOf above) s) (λ r. linesOf recordOf (above ++ (r ∷ [])) (split LF (drop (indexOf LF s + 1) s)))
+  pub text-step : (above : List A) (s : List ℕ) → 0 < length s → linesOf recordOf above (split LF s) ≡ continued above (lineOf (recordOf above) s) (λ r. linesOf recordOf (above ++ (r ∷ [])) (split LF (following LF s)))
   unfolding lineOf continued
   text-step above s h = go (ltb (indexOf LF s) (length s)) refl
     where
-      go : (t : Bool) → ltb (indexOf LF s) (length s) ≡ t → linesOf recordOf above (split LF s) ≡ continued above (lineOf (recordOf above) s) (λ r. linesOf recordOf (above ++ (r ∷ [])) (split LF (drop (indexOf LF s + 1) s)))
+      go : (t : Bool) → ltb (indexOf LF s) (length s) ≡ t → linesOf recordOf above (split LF s) ≡ continued above (lineOf (recordOf above) s) (λ r. linesOf recordOf (above ++ (r ∷ [])) (split LF (following LF s)))
       go true p =
-          ap (linesOf recordOf above) (parts LF s ∙ rw (p, ← add-one (indexOf LF s)))
-          ∙ lines-first above (before LF s) (drop (indexOf LF s + 1) s)
+          ap (linesOf recordOf above) (parts LF s ∙ rw p)
+          ∙ lines-first above (before LF s) (following LF s)
           ∙ rw p
       go false p =
           ap (linesOf recordOf above) (parts LF s ∙ rw (p, before-take LF s, take-all (indexOf LF s) s (ltb-false (indexOf LF s) (length s) p)))

@@ -9,14 +9,15 @@ use lib.Dec.{eqb}
 use lib.IntN.{ℤ, pos, negsuc}
 use lib.Signed.{leZ}
 use Rattle.declare.specs.Events.{inRange, least, greatest}
+use Rattle.declare.specs.Refusals.{numberOf}
 use Rattle.declare.specs.Comparisons.{operandOf}
 use Rattle.declare.proofs.Booleans.{and-left, and-right}
 use Rattle.number.specs.Number.{none, dash, naturalOf, inSignedRange, integerOf}
 use Rattle.number.specs.Written.{digitsOf, integerText}
 use Rattle.number.proofs.Written.{written-digits, read-natural, read-integer, integer-not-dash, NaturalRead, natural-read, IntegerRead, integer-read}
-use Rattle.line.specs.Types.{Reading, Blank, Value, Fault, NaturalAnswer, Natural, NoNatural, IntegerAnswer, Integer, NoInteger}
+use Rattle.line.specs.Types.{Reading, Blank, Value, Refusal, Fault, NaturalAnswer, Natural, NoNatural, IntegerAnswer, Integer, NoInteger, NumberAnswer, Number, NoNumber, ReadingAnswer, Read, NoReading}
 use Rattle.line.specs.Answers.{Answer, Of, No}
-use Rattle.line.specs.Values.{faultNumber, naturalAnswer, numberField, integerAnswer, readingField, readingText}
+use Rattle.line.specs.Values.{faultNumber, naturalAnswer, numberField, integerAnswer, readingField, readingText, numberRead, readingRead}
 use Rattle.line.proofs.Joined.{lacks, lacks-digits}
 
 pub no-of : {A : Type 0} {n : ℕ} {a : A} → No n ≡ Of a → ⊥
@@ -26,6 +27,26 @@ no-of e =
 
 pub of-of : {A : Type 0} {a b : A} → Of a ≡ Of b → a ≡ b
 of-of e = cc
+
+-- ---- the code's answers
+
+module _ (x : Answer ℕ) (a : NumberAnswer) (h : numberRead a ≡ x) where
+  pub number-found : (v : ℕ) → a ≡ Number v → x ≡ Of v
+  unfolding numberRead
+  number-found v e = sym h ∙ rw e
+
+  pub number-refused : (cause : Refusal) → a ≡ NoNumber cause → x ≡ No (numberOf cause)
+  unfolding numberRead
+  number-refused cause e = sym h ∙ rw e
+
+module _ (x : Answer Reading) (a : ReadingAnswer) (h : readingRead a ≡ x) where
+  pub reading-found : (r : Reading) → a ≡ Read r → x ≡ Of r
+  unfolding readingRead
+  reading-found r e = sym h ∙ rw e
+
+  pub reading-refused : (cause : Refusal) → a ≡ NoReading cause → x ≡ No (numberOf cause)
+  unfolding readingRead
+  reading-refused cause e = sym h ∙ rw e
 
 -- ---- numbers
 

@@ -1,8 +1,9 @@
 -- "One record a line, fields parted by a tab, each line ended by LF (byte 10)": parts of a list of bytes, and what they are parts of.
 use mathlib.Core.Bool.{cond}
 use mathlib.Core.List.{List, [], _∷_, _++_}
-use Prim.Native.Nat.{ℕ, suc}
+use Prim.Native.Nat.{ℕ, suc, _+_}
 use lib.Dec.{eqb}
+use lib.ListN.{drop}
 
 -- the bytes that part lines, and the fields of a line
 abbrev pub LF : ℕ
@@ -20,6 +21,10 @@ indexOf b (x ∷ xs) = cond (eqb x b) 0 (suc (indexOf b xs))
 unfoldable pub before : ℕ → List ℕ → List ℕ
 before b [] = []
 before b (x ∷ xs) = cond (eqb x b) [] (x ∷ before b xs)
+
+-- what stands after the first b, or nothing
+unfoldable pub following : ℕ → List ℕ → List ℕ
+following b s = drop (indexOf b s + 1) s
 
 -- how often b stands
 unfoldable pub countOf : ℕ → List ℕ → ℕ
