@@ -189,6 +189,22 @@ next-field e b n s h l =
       left = omega (arith, rw (f .fields) at h);
     }
 
+-- the same where the code has passed the field: p is the part in hand, l the length it found
+pub record Passed (e b n : ℕ) (s p : List ℕ) (l : ℕ) : Type 0 where
+  pub room : l + 1 ≤ length p
+  pub part : take (length p - (l + 1)) (drop (l + 1) p) ≡ following b s
+  pub left : length (split b (before e (following b s))) ≡ n
+
+pub pass-field : (e b n : ℕ) (s p : List ℕ) (l : ℕ) → p ≡ s → l ≡ indexOf b p → length (split b (before e s)) ≡ suc n → 0 < n → Passed e b n s p l
+pass-field e b n s p l q h k m =
+    let f = next-field e b n s k m in
+    let i : indexOf b p ≡ indexOf b s = ap (indexOf b) q in
+    record {
+      room = omega (arith, f .index, ap length q);
+      part = part-following b p l h ∙ ap (following b) q;
+      left = f .left;
+    }
+
 -- the last field is all of the line
 pub last-field : (b : ℕ) (s : List ℕ) → length (split b s) ≡ 1 → split b s ≡ s ∷ []
 unfolding split

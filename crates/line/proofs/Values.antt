@@ -18,15 +18,8 @@ use Rattle.number.proofs.Written.{written-digits, read-natural, read-integer, i
 use Rattle.line.specs.Types.{Reading, Blank, Value, Refusal, Fault, NaturalAnswer, Natural, NoNatural, IntegerAnswer, Integer, NoInteger, NumberAnswer, Number, NoNumber, ReadingAnswer, Read, NoReading}
 use Rattle.line.specs.Answers.{Answer, Of, No}
 use Rattle.line.specs.Values.{faultNumber, naturalAnswer, numberField, integerAnswer, readingField, readingText, numberRead, readingRead}
+use Rattle.line.proofs.Answers.{no-of, of-of}
 use Rattle.line.proofs.Joined.{lacks, lacks-digits}
-
-pub no-of : {A : Type 0} {n : ℕ} {a : A} → No n ≡ Of a → ⊥
-no-of e =
-    let z : _≡_ {A = ℕ} 0 1 = cc in
-    omega arith
-
-pub of-of : {A : Type 0} {a b : A} → Of a ≡ Of b → a ≡ b
-of-of e = cc
 
 -- ---- the code's answers
 

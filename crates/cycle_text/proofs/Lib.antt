@@ -1,0 +1,4 @@
+-- The laws of cycle texts, for this crate and those above it.
+pub mod Steps
+pub mod Turns
+pub mod RoundTrips

@@ -1,0 +1,40 @@
+-- What a cycle text holds, by document 01: its lines, their fields, the fields' values, and the order of the checks.
+-- "In a line: 12, 1, then field by field 2, 3, then 7, then 8." The line's 12 is in `textOf`.
+use mathlib.Core.List.{List, []}
+use Prim.Native.Nat.{ℕ}
+use lib.Dec.{eqb, leb, ltb}
+use lib.ListN.{length, getD}
+use Rattle.declare.specs.Events.{lastTime}
+use Rattle.line.specs.Answers.{Answer, Of, No, _>>=_, _>>_, require}
+use Rattle.line.specs.Values.{numberField, readingField}
+use Rattle.line.specs.Texts.{Records, textOf}
+use Rattle.cycle_text.specs.Types.{Reading, Event}
+
+-- "a cycle line: time, activity, four readings"
+unfoldable pub eventOf : List (List ℕ) → Answer Event
+eventOf fields = do
+  require (eqb (length fields) 6) 1
+  time ← numberField 0 4294967295 (getD fields 0 [])
+  activity ← numberField 1 64 (getD fields 1 [])
+  reading1 ← readingField (getD fields 2 [])
+  reading2 ← readingField (getD fields 3 [])
+  reading3 ← readingField (getD fields 4 [])
+  reading4 ← readingField (getD fields 5 [])
+  Of (record { time = time; activity = activity; reading1 = reading1; reading2 = reading2; reading3 = reading3; reading4 = reading4 })
+
+-- "time below the last taken" is 7, the "257th event" 8
+unfoldable pub inOrder : List Event → Event → Answer Event
+inOrder above event = do
+  require (leb (lastTime above) (event .time)) 7
+  require (ltb (length above) 256) 8
+  Of event
+
+-- a line below others
+unfoldable pub eventAfter : List Event → List (List ℕ) → Answer Event
+eventAfter above fields = do
+  event ← eventOf fields
+  inOrder above event
+
+-- the events of a cycle text; or the number of the first refusal, and its line
+unfoldable pub cycleTextOf : List ℕ → Records Event
+cycleTextOf text = textOf eventAfter text

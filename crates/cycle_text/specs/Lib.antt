@@ -1,0 +1,5 @@
+-- Cycle texts: what one holds, and how events are written as one.
+pub mod Types
+pub mod Cycle
+pub mod Written
+pub mod Reads

@@ -1,0 +1,255 @@
+//! Each cause of 11 alone, and the same values where they are no cause.
+
+use evaluator::Operator::{Equal, Less};
+use evaluator::Standing::{Fulfilled, Idle, Open, Violated};
+use evaluator::{grown, place, Comparison, ConditionSlot, Event, Record, Rule, RuleSlot};
+
+/// A run with a name for what is wrong in it, or beside the limits.
+pub type Named = (String, Record);
+
+/// Two rules and three events. The rules have two comparisons in the
+/// activation condition and three in the correlation.
+pub fn base(closed: bool) -> Record {
+    let rule = |code| {
+        Rule::new(code, 1, 2, 5, Some(500))
+            .with_activation_condition(vec![constant(1), constant(2)])
+            .with_correlation(vec![constant(1), constant(4), against(2, 3)])
+    };
+    let event = |time, activity| {
+        Event::new(time, activity)
+            .with_reading(1, 0)
+            .with_reading(2, 0)
+    };
+    let events = [event(5, 1), event(5, 9), event(8, 1)];
+    let run = grown(&[rule(2), rule(9)], &events);
+    match closed {
+        true => run.close().0,
+        false => run,
+    }
+}
+
+fn constant(reading: u8) -> Comparison {
+    Comparison::with_constant(reading, Equal, 0)
+}
+
+fn against(reading: u8, g: u8) -> Comparison {
+    Comparison::with_activation(reading, Less, g, 0)
+}
+
+/// Runs made from one base by a change each.
+struct Changed {
+    base: Record,
+    runs: Vec<Named>,
+}
+
+impl Changed {
+    fn add(&mut self, name: String, change: impl FnOnce(&mut Record)) {
+        let mut run = self.base.clone();
+        change(&mut run);
+        assert!(run != self.base, "{name} changes nothing");
+        self.runs.push((name, run));
+    }
+
+    fn add_rule(&mut self, name: &str, slot: usize, change: impl Fn(&mut RuleSlot)) {
+        let name = format!("{name} in rule slot {slot}");
+        self.add(name, |run| change(&mut run.table.rules[slot]));
+    }
+}
+
+/// Every cause of 11, alone in a run.
+pub fn causes(closed: bool) -> Vec<Named> {
+    let base = base(closed);
+    let runs = Vec::new();
+    let mut changed = Changed { base, runs };
+    count_causes(&mut changed);
+    for slot in 0..2 {
+        rule_causes(&mut changed, slot);
+        for correlation in [false, true] {
+            condition_causes(&mut changed, slot, correlation);
+        }
+    }
+    event_causes(&mut changed);
+    standing_causes(&mut changed);
+    changed.runs
+}
+
+/// Counts above their limits, among them such as become small when cut.
+fn count_causes(changed: &mut Changed) {
+    let wide = [1 << 8, 1 << 16, 1 << 32, 1 << 63];
+    let wide = wide.into_iter().flat_map(|bit| [bit + 2, bit + 3]);
+    let wide: Vec<u64> = wide.chain([257, u64::MAX]).collect();
+    for count in [17, 255].iter().chain(&wide) {
+        let name = format!("rule count {count}");
+        changed.add(name, |run| run.table.count = *count);
+    }
+    for count in &wide {
+        changed.add(format!("event count {count}"), |run| run.count = *count);
+    }
+}
+
+fn rule_causes(changed: &mut Changed, slot: usize) {
+    for code in [0, 13, 255] {
+        changed.add_rule(&format!("code {code}"), slot, |rule| rule.code = code);
+    }
+    for activity in [0, 65, 255] {
+        let name = format!("activation {activity}");
+        changed.add_rule(&name, slot, |rule| rule.activation = activity);
+        let name = format!("target {activity}");
+        changed.add_rule(&name, slot, |rule| rule.target = activity);
+    }
+    for end in [0, 4, 5] {
+        let name = format!("window from 5 to {end}");
+        changed.add_rule(&name, slot, |rule| rule.end = Some(end));
+    }
+    for (a, end) in [(0, 0), (u32::MAX, u32::MAX), (u32::MAX, 500)] {
+        let name = format!("window from {a} to {end}");
+        changed.add_rule(&name, slot, |rule| (rule.a, rule.end) = (a, Some(end)));
+    }
+}
+
+fn condition_of(rule: &mut RuleSlot, correlation: bool) -> &mut ConditionSlot {
+    match correlation {
+        true => &mut rule.correlation,
+        false => &mut rule.activation_condition,
+    }
+}
+
+fn condition_causes(changed: &mut Changed, slot: usize, correlation: bool) {
+    let used = if correlation { 3 } else { 2 };
+    let mut add = |name: String, change: &dyn Fn(&mut ConditionSlot)| {
+        let name = format!("{name}, correlation: {correlation},");
+        changed.add_rule(&name, slot, |rule| change(condition_of(rule, correlation)));
+    };
+    for count in [5, 255] {
+        add(format!("comparison count {count}"), &|c| c.count = count);
+    }
+    for place in 0..used {
+        for reading in [0, 5, 255] {
+            add(format!("reading {reading} at {place}"), &|c| {
+                c.comparisons[place].reading = reading
+            });
+        }
+        for g in [0, 5, 255] {
+            add(format!("reference {g} at {place}"), &|c| {
+                let reading = c.comparisons[place].reading;
+                c.comparisons[place] = against(reading, g);
+            });
+        }
+    }
+    for (first, second) in (1..used).flat_map(|later| (0..later).map(move |at| (at, later))) {
+        add(format!("{first} and {second} alike"), &|c| {
+            c.comparisons[second].reading = c.comparisons[first].reading
+        });
+    }
+    if !correlation {
+        add("an activation's reading".to_string(), &|c| {
+            c.comparisons[1] = against(2, 1)
+        });
+    }
+}
+
+fn event_causes(changed: &mut Changed) {
+    for slot in 0..3 {
+        for activity in [0, 65, 255] {
+            let name = format!("activity {activity} in event slot {slot}");
+            changed.add(name, |run| run.events[slot].activity = activity);
+        }
+    }
+    for (slot, time) in [(0, 6), (1, 4), (1, 9), (2, 4), (2, 0), (0, u32::MAX)] {
+        let name = format!("time {time} in event slot {slot}");
+        changed.add(name, |run| run.events[slot].time = time);
+    }
+}
+
+fn standing_causes(changed: &mut Changed) {
+    let closed = changed.base.closed;
+    for rule in [1, 2] {
+        let mut add = |position, standing| {
+            let name = format!("{standing:?} at position {position} of rule {rule}");
+            changed.add(name, |run| run.standings[place(rule, position)] = standing);
+        };
+        for position in 1..=3 {
+            for target in [4, 255, 256, 257, 65_535] {
+                add(position, Fulfilled(target));
+                add(position, Violated(target));
+            }
+            if closed {
+                add(position, Open);
+            }
+        }
+        for position in [4, 5, 255, 256] {
+            for standing in [Open, Fulfilled(0), Violated(0), Fulfilled(3), Violated(1)] {
+                add(position, standing);
+            }
+        }
+    }
+}
+
+/// Values at the limits, and values outside of them where nothing reads them.
+/// None of these is a cause of 11.
+pub fn allowed(closed: bool) -> Vec<Named> {
+    let base = base(closed);
+    let runs = Vec::new();
+    let mut changed = Changed { base, runs };
+    allowed_in_used_slots(&mut changed);
+    for slot in [2, 3, 15] {
+        rule_causes(&mut changed, slot);
+        for rule in 0..2 {
+            for standing in [Open, Fulfilled(0), Violated(65_535)] {
+                let position = 1 + slot * 17 + rule;
+                let name = format!("{standing:?} in the row of slot {slot}");
+                let at = place(slot + 1, position);
+                changed.add(name, |run| run.standings[at] = standing);
+            }
+        }
+    }
+    for slot in [3, 4, 255] {
+        for event in [Event::new(0, 0), Event::new(0, 65), Event::new(1, 255)] {
+            let name = format!("{event:?} in event slot {slot}");
+            changed.add(name, |run| run.events[slot] = event);
+        }
+    }
+    for slot in 0..2 {
+        let name = "comparisons past the count";
+        changed.add_rule(name, slot, |rule| {
+            rule.activation_condition.comparisons[2..].fill(against(9, 9));
+            rule.correlation.comparisons[3] = against(0, 255);
+        });
+    }
+    changed.runs
+}
+
+fn allowed_in_used_slots(changed: &mut Changed) {
+    for slot in 0..2 {
+        for activity in [1, 2, 64] {
+            let name = format!("activities {activity}");
+            changed.add_rule(&name, slot, |rule| {
+                (rule.activation, rule.target) = (activity, activity)
+            });
+        }
+        for (a, end) in [(0, Some(1)), (u32::MAX, None), (6, Some(7))] {
+            let name = format!("window from {a} to {end:?}");
+            changed.add_rule(&name, slot, |rule| (rule.a, rule.end) = (a, end));
+        }
+        changed.add_rule("four comparisons", slot, |rule| {
+            rule.correlation.count = 4;
+            rule.correlation.comparisons[3] = against(3, 4);
+        });
+    }
+    for count in [0, 1] {
+        changed.add(format!("rule count {count}"), |run| run.table.count = count);
+    }
+    for target in [0, 1, 2, 3] {
+        for standing in [Fulfilled(target), Violated(target), Idle] {
+            let name = format!("{standing:?} of rules 1 and 2, {target}");
+            changed.add(name, |run| {
+                run.standings[place(1, 1)] = standing;
+                run.standings[place(2, 2)] = Fulfilled(target);
+            });
+        }
+    }
+    changed.add("equal times".to_string(), |run| run.events[2].time = 5);
+    changed.add("the last time".to_string(), |run| {
+        run.events[2].time = u32::MAX
+    });
+}

@@ -1,0 +1,218 @@
+//! Runs that no call grew: each call is followed by a comparison of the whole
+//! record.
+
+use crate::script::{Case, Session};
+use evaluator::fabricate::{fabricated, fill_unused, random_event, random_record};
+use evaluator::random::{random_cycle, random_rules, Random};
+use evaluator::Standing::{Fulfilled, Idle, Open, Violated};
+use evaluator::{place, start, Event, Record, Refusal, TableRecord};
+
+pub const KIND: &str = "records";
+
+/// The numbers of rules and positions to ask for, but for those near a count.
+const NUMBERS: [u64; 9] = [
+    0,
+    1,
+    16,
+    17,
+    256,
+    257,
+    65_537,
+    u32::MAX as u64 - 1,
+    u32::MAX as u64,
+];
+const WIDE_NUMBERS: [u64; 4] = [1 << 32, (1 << 32) + 1, 1 << 63, u64::MAX];
+
+/// A grown record with up to three changes, and up to five calls on it.
+pub fn case(seed: u64) -> Case {
+    let mut random = Random::new(seed);
+    let mut run = random_record(&mut random, 7);
+    if random.one_in(3) {
+        fill_unused(&mut random, &mut run);
+    }
+    let changes = random.pick(&[0, 1, 1, 1, 2, 3]);
+    let run = fabricated(&mut random, run, changes);
+    let mut session = Session::on(KIND, seed, run);
+    session.compare_run();
+    for _ in 0..1 + random.below(5) {
+        call(&mut session, &mut random);
+        session.compare_run();
+    }
+    session.case
+}
+
+fn call(session: &mut Session, random: &mut Random) {
+    match random.below(10) {
+        0..=4 => {
+            let event = random_event(random, &session.run);
+            drop(session.take(event));
+        }
+        5 => drop(session.close()),
+        6 => {
+            let table = session.run.table.clone();
+            drop(session.start(&table));
+        }
+        7 => drop(session.totals(number_near(random, session.run.table.count, true))),
+        _ => {
+            let rule = number_near(random, session.run.table.count, false) as u32;
+            let position = number_near(random, session.run.count, false) as u32;
+            drop(session.standing(rule, position));
+        }
+    }
+}
+
+/// A number up to the count, one past it, or one of the lists above.
+fn number_near(random: &mut Random, count: u64, wide: bool) -> u64 {
+    match random.below(8) {
+        0 => random.pick(&NUMBERS),
+        1 if wide => random.pick(&WIDE_NUMBERS),
+        2 => count.wrapping_add(1),
+        3 => count,
+        _ => 1 + random.bits() % count.clamp(1, 256),
+    }
+}
+
+/// A valid record whose standings have nothing to do with its events: decided
+/// ones are carried over, all others judged anew.
+pub fn stale_case(seed: u64) -> Case {
+    let mut random = Random::new(seed);
+    let rules = random.pick(&[1, 1, 2, 3, 16]);
+    let length = match random.one_in(40) {
+        true => random.pick(&[100, 254, 255, 256]),
+        false => random.pick(&[0, 1, 2, 3, 5, 8, 12]),
+    };
+    // Long runs of many rules take the evaluator too long.
+    let rules = if length >= 100 { rules.min(2) } else { rules };
+    let mut run = stale_run(&mut random, rules, length);
+    if random.one_in(3) {
+        fill_unused(&mut random, &mut run);
+    }
+    let mut session = Session::on(KIND, seed, run);
+    session.compare_run();
+    for _ in 0..1 + random.below(3) {
+        let event = next_event(&mut random, &session.run);
+        let full = session.run.count == 256;
+        let answer = session.take(event);
+        let refused = Err(Refusal::at(8, 0));
+        assert_eq!(answer, if full { refused } else { Ok(()) });
+        session.compare_run();
+        session.all_totals();
+    }
+    session.close().expect("a run that is not closed");
+    session.compare_run();
+    session.case
+}
+
+fn stale_run(random: &mut Random, rules: usize, length: usize) -> Record {
+    let rules = random_rules(random, rules);
+    let mut run = start(&TableRecord::of(&rules)).expect("a valid table");
+    run.count = length as u64;
+    run.events[..length].copy_from_slice(&random_cycle(random, &rules, length));
+    for rule in 1..=rules.len() {
+        for position in 1..=length {
+            let target = random.below(length + 1) as u16;
+            let standings = [Idle, Idle, Open, Open, Fulfilled(target), Violated(target)];
+            run.standings[place(rule, position)] = random.pick(&standings);
+        }
+    }
+    run
+}
+
+/// A well-formed event that may come next.
+fn next_event(random: &mut Random, run: &Record) -> Event {
+    let rules = run.table.rules().expect("a valid table");
+    let mut event = random_cycle(random, &rules, 1)[0];
+    let last = run.events[..run.count as usize].last();
+    let last = last.map_or(0, |event| event.time);
+    event.time = last.saturating_add(random.pick(&[0, 0, 1, 2, 100, 500]));
+    event
+}
+
+/// A record with one cause of 11: every call is refused with it, also where 9,
+/// 10, 3 or 7 would be next, and nothing changes.
+pub fn cause_case(number: u64, run: Record) -> Case {
+    let outside = Err(Refusal::plain(11));
+    let mut session = Session::on(KIND, number, run);
+    session.compare_run();
+    let good = Event::new(u32::MAX, 1);
+    for event in [
+        good,
+        Event::new(u32::MAX, 0),
+        Event::new(0, 65),
+        Event::new(0, 1),
+    ] {
+        assert_eq!(session.take(event), outside);
+        session.compare_run();
+    }
+    assert_eq!(session.close(), outside);
+    session.compare_run();
+    for (rule, position) in [(1, 1), (2, 3), (0, 1), (1, 0), (3, 1), (1, 4), (17, 257)] {
+        let answer = session.standing(rule, position);
+        assert_eq!(answer.map(|_| ()), outside);
+    }
+    for rule in [1, 2, 0, 3, u64::MAX] {
+        assert_eq!(session.totals(rule), outside);
+    }
+    session.compare_run();
+    // Start reads the table alone.
+    let table = session.run.table.clone();
+    let answer = session.start(&table);
+    assert_eq!(answer.is_err(), table.rules().is_none());
+    session.compare_run();
+    session.case
+}
+
+/// A record of two rules and three events beside the limits, not outside them.
+pub fn allowed_case(number: u64, run: Record) -> Case {
+    let closed = run.closed;
+    let first_rule = if run.table.count == 0 { 0 } else { 1 };
+    let mut session = Session::on(KIND, number, run);
+    session.compare_run();
+    let answer = session.standing(first_rule, 1);
+    assert_eq!(answer.is_ok(), first_rule == 1);
+    ask_all_numbers(&mut session);
+    let refused = |number, line| {
+        if closed {
+            Refusal::plain(9)
+        } else {
+            Refusal::at(number, line)
+        }
+    };
+    for (event, number) in [
+        (Event::new(0, 0), 3),
+        (Event::new(0, 65), 3),
+        (Event::new(4, 1), 7),
+    ] {
+        assert_eq!(session.take(event), Err(refused(number, 0)));
+        session.compare_run();
+    }
+    let answer = session.take(Event::new(u32::MAX, 2));
+    assert_eq!(answer.is_ok(), !closed);
+    session.compare_run();
+    assert_eq!(session.close().is_ok(), !closed);
+    session.compare_run();
+    let table = session.run.table.clone();
+    session.start(&table).expect("a valid table");
+    session.compare_run();
+    session.case
+}
+
+/// Standing and totals of every number at or beside a limit.
+pub fn ask_all_numbers(session: &mut Session) {
+    let rules = session.run.table.count;
+    let events = session.run.count;
+    let rule_numbers: Vec<u64> = NUMBERS.into_iter().chain([rules, rules + 1]).collect();
+    let positions: Vec<u64> = NUMBERS.into_iter().chain([events, events + 1]).collect();
+    for rule in &rule_numbers {
+        for position in &positions {
+            let known = (1..=rules).contains(rule) && (1..=events).contains(position);
+            let answer = session.standing(*rule as u32, *position as u32);
+            assert_eq!(answer.is_ok(), known);
+        }
+    }
+    for rule in rule_numbers.iter().chain(&WIDE_NUMBERS) {
+        let answer = session.totals(*rule);
+        assert_eq!(answer.is_ok(), (1..=rules).contains(rule));
+    }
+    session.compare_run();
+}

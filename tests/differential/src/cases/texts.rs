@@ -1,0 +1,156 @@
+//! Rules texts, cycle texts and pairs of them, valid and damaged.
+
+use crate::answer::Answer;
+use crate::command::{Command, LARGEST_TEXT};
+use crate::expected::Expected;
+use crate::script::{new_table, Case, Session};
+use evaluator::damage::{damaged_cycle_text, damaged_rules_text};
+use evaluator::damage::{random_cycle_text, random_rules_text};
+use evaluator::random::Random;
+use evaluator::{read_cycle, read_rules, start, Event, Record};
+
+pub const RULES: &str = "rules-texts";
+pub const CYCLES: &str = "cycle-texts";
+pub const PAIRS: &str = "pairs";
+
+/// After every so many refusals it is compared that nothing changed.
+const UNCHANGED_EVERY: u64 = 16;
+
+/// A rules text.
+pub fn rules_case(seed: u64) -> Case {
+    let text = random_rules(&mut Random::new(seed));
+    rules_text_case(seed, text)
+}
+
+/// A cycle text.
+pub fn cycle_case(seed: u64) -> Case {
+    let text = random_cycle(&mut Random::new(seed));
+    cycle_text_case(seed, text)
+}
+
+fn random_rules(random: &mut Random) -> Vec<u8> {
+    let text = match random.one_in(5) {
+        true => {
+            let count = random.pick(&[0, 1, 1, 2, 2, 3, 5, 16, 17]);
+            random_rules_text(random, count)
+        }
+        false => damaged_rules_text(random),
+    };
+    cut(text)
+}
+
+fn random_cycle(random: &mut Random) -> Vec<u8> {
+    let text = match random.one_in(5) {
+        true => {
+            let count = random.pick(&[0, 1, 1, 2, 2, 3, 5, 16, 256, 257]);
+            random_cycle_text(random, count)
+        }
+        false => damaged_cycle_text(random),
+    };
+    cut(text)
+}
+
+/// `probe` takes so many bytes.
+fn cut(mut text: Vec<u8>) -> Vec<u8> {
+    text.truncate(LARGEST_TEXT);
+    text
+}
+
+/// A rules text: the answer, and the rules or the table as it was.
+pub fn rules_text_case(seed: u64, text: Vec<u8>) -> Case {
+    let mut case = Case::new(RULES, seed);
+    case.fresh();
+    let table = new_table(3);
+    case.load_table(&table);
+    let read = read_rules(&text);
+    let answer = Answer::plain(read.as_ref().map(|_| ()).map_err(|refusal| *refusal));
+    case.ask(Command::ReadRules(text), Expected::Answer(answer));
+    let expected = match read {
+        Ok(rules) => Some(Expected::Rules(rules)),
+        Err(_) if seed % UNCHANGED_EVERY == 0 => {
+            let mut run = fresh_run();
+            run.table = table;
+            Some(Expected::Run(Box::new(run)))
+        }
+        Err(_) => None,
+    };
+    if let Some(expected) = expected {
+        case.send(Command::SetTable);
+        case.ask(Command::DumpRun, expected);
+    }
+    case
+}
+
+/// A cycle text: the answer, and the events or the run as it was.
+pub fn cycle_text_case(seed: u64, text: Vec<u8>) -> Case {
+    let mut case = Case::new(CYCLES, seed);
+    let mut run = fresh_run();
+    run.count = 2;
+    run.events[1] = Event::new(7, 3).with_reading(2, -1);
+    case.load_run(&run);
+    let read = read_cycle(&text);
+    let answer = Answer::plain(read.as_ref().map(|_| ()).map_err(|refusal| *refusal));
+    case.ask(Command::ReadCycle(text), Expected::Answer(answer));
+    match read {
+        Ok(events) => case.ask(Command::DumpRun, Expected::Events(events)),
+        Err(_) if seed % UNCHANGED_EVERY == 0 => {
+            case.ask(Command::DumpRun, Expected::Run(Box::new(run)));
+        }
+        Err(_) => {}
+    }
+    case
+}
+
+fn fresh_run() -> Record {
+    start(&new_table(0)).expect("a valid table")
+}
+
+/// Two texts for the notebook.
+pub fn pair_case(seed: u64) -> Case {
+    let (rules, cycle) = pair(seed);
+    pair_text_case(seed, rules, cycle)
+}
+
+/// A rules text and a cycle text.
+pub fn pair(seed: u64) -> (Vec<u8>, Vec<u8>) {
+    let mut random = Random::new(seed);
+    let rules = match random.one_in(4) {
+        true => damaged_rules_text(&mut random),
+        false => {
+            let count = random.pick(&[0, 1, 1, 2, 3, 5, 16]);
+            random_rules_text(&mut random, count)
+        }
+    };
+    let cycle = pair_cycle(&mut random, &rules);
+    (cut(rules), cut(cycle))
+}
+
+/// A cycle text, mostly one that belongs to the rules if these are valid.
+fn pair_cycle(random: &mut Random, rules: &[u8]) -> Vec<u8> {
+    if random.one_in(3) {
+        return damaged_cycle_text(random);
+    }
+    let count = match random.one_in(50) {
+        true => random.pick(&[255, 256, 257]),
+        false => random.pick(&[0, 1, 2, 3, 5, 8, 12, 20, 40]),
+    };
+    let rules = read_rules(rules).unwrap_or_default();
+    let events = evaluator::random::random_cycle(random, &rules, count);
+    evaluator::write_cycle(&events)
+}
+
+/// Two texts: the answer, and the closed run, or the run as it was.
+pub fn pair_text_case(seed: u64, rules: Vec<u8>, cycle: Vec<u8>) -> Case {
+    let mut session = Session::started(PAIRS, seed, &new_table(0));
+    let answer = session.notebook(rules, cycle);
+    match answer {
+        Ok(()) => {
+            session.compare_notebook_run();
+            session.compare_standings();
+            session.all_totals();
+        }
+        Err(_) if seed % UNCHANGED_EVERY == 0 => session.compare_run(),
+        Err(_) => {}
+    }
+    session.case
+}

@@ -1,0 +1,143 @@
+//! How much was compared.
+
+use crate::command::{kind_and_target, Command};
+use crate::expected::Expected;
+use crate::script::Case;
+use evaluator::Standing;
+use std::collections::BTreeMap;
+use std::fmt;
+
+/// What a standing shows: its kind, and whether it names a target.
+pub const SHOWN: [&str; 6] = [
+    "idle",
+    "open",
+    "fulfilled",
+    "fulfilled with a target",
+    "violated",
+    "violated with a target",
+];
+
+/// The place in [`SHOWN`].
+fn shown(standing: Standing) -> usize {
+    match kind_and_target(standing) {
+        (kind @ 0..=1, _) => usize::from(kind),
+        (kind, target) => 2 * usize::from(kind) - 2 + usize::from(target != 0),
+    }
+}
+
+/// Numbers of things compared without a difference.
+#[derive(Debug, Clone, Default)]
+pub struct Counts {
+    pub cases: usize,
+    /// By the command's letter and the number answered.
+    answers: BTreeMap<(char, u8), usize>,
+    /// Dumps by their letter.
+    dumps: BTreeMap<char, usize>,
+    /// By template code and [`SHOWN`].
+    standings: [[usize; 6]; 13],
+}
+
+impl Counts {
+    pub fn add(&mut self, case: &Case) {
+        self.cases += 1;
+        for step in &case.steps {
+            if let Some(expected) = &step.expected {
+                self.add_step(&step.command, expected);
+            }
+        }
+    }
+
+    fn add_step(&mut self, command: &Command, expected: &Expected) {
+        let letter = command.letter();
+        if let Expected::Answer(answer) = expected {
+            *self.answers.entry((letter, answer.number)).or_default() += 1;
+            return;
+        }
+        *self.dumps.entry(letter).or_default() += 1;
+        if let Expected::Standings { codes, rows } = expected {
+            for (code, row) in codes.iter().zip(rows) {
+                for standing in row {
+                    self.standings[usize::from(*code)][shown(*standing)] += 1;
+                }
+            }
+        }
+    }
+
+    pub fn merge(&mut self, other: &Counts) {
+        self.cases += other.cases;
+        for (key, count) in &other.answers {
+            *self.answers.entry(*key).or_default() += count;
+        }
+        for (letter, count) in &other.dumps {
+            *self.dumps.entry(*letter).or_default() += count;
+        }
+        for (row, other) in self.standings.iter_mut().zip(&other.standings) {
+            for (count, other) in row.iter_mut().zip(other) {
+                *count += other;
+            }
+        }
+    }
+
+    /// The calls of a letter, whatever the answer.
+    pub fn calls(&self, letter: char) -> usize {
+        let of_letter = self.answers.iter().filter(|(key, _)| key.0 == letter);
+        of_letter.map(|(_, count)| count).sum()
+    }
+
+    /// The calls of a letter that were answered with this number.
+    pub fn answered(&self, letter: char, number: u8) -> usize {
+        self.answers.get(&(letter, number)).copied().unwrap_or(0)
+    }
+
+    /// The numbers answered to the calls of a letter.
+    pub fn numbers(&self, letter: char) -> Vec<u8> {
+        let of_letter = self.answers.keys().filter(|key| key.0 == letter);
+        of_letter.map(|key| key.1).collect()
+    }
+
+    /// The dumps of a letter.
+    pub fn dumps(&self, letter: char) -> usize {
+        self.dumps.get(&letter).copied().unwrap_or(0)
+    }
+
+    /// The standings compared one by one.
+    pub fn standings(&self) -> usize {
+        self.standings.iter().flatten().sum()
+    }
+
+    /// The standings of a template code, in the order of [`SHOWN`].
+    pub fn standings_of(&self, code: u8) -> [usize; 6] {
+        self.standings[usize::from(code)]
+    }
+}
+
+impl fmt::Display for Counts {
+    fn fmt(&self, f: &mut fmt::Formatter<'_>) -> fmt::Result {
+        write!(f, "{} cases", self.cases)?;
+        let names = [
+            ('s', "starts"),
+            ('e', "takes"),
+            ('x', "closes"),
+            ('g', "standings asked"),
+            ('o', "totals"),
+            ('b', "tallies"),
+            ('R', "rules texts"),
+            ('Y', "cycle texts"),
+            ('N', "pairs of texts"),
+        ];
+        for (letter, name) in names {
+            let calls = self.calls(letter);
+            if calls > 0 {
+                let accepted = self.answered(letter, 0);
+                write!(f, ", {calls} {name} ({accepted} accepted)")?;
+            }
+        }
+        let dumps = [('d', "lists of standings"), ('D', "whole records")];
+        for (letter, name) in dumps {
+            if self.dumps(letter) > 0 {
+                write!(f, ", {} {name}", self.dumps(letter))?;
+            }
+        }
+        Ok(())
+    }
+}

@@ -1,0 +1,210 @@
+//! What is said of a difference.
+
+use crate::script::Case;
+use evaluator::{place, start, Record, Standing, TableRecord};
+use std::fmt::{self, Debug, Display};
+
+/// So many fields of a run are shown.
+const SHOWN_FIELDS: usize = 12;
+/// So many commands of a script are shown.
+const SHOWN_COMMANDS: usize = 60;
+
+/// What was expected in place of what was found.
+#[derive(Debug, Clone, PartialEq, Eq)]
+pub struct Mismatch {
+    pub expected: String,
+    pub found: String,
+}
+
+/// A difference between a program and the evaluator.
+#[derive(Debug, Clone)]
+pub struct Difference {
+    pub kind: &'static str,
+    pub seed: u64,
+    /// What was given to the program up to the difference.
+    pub given: String,
+    pub mismatch: Mismatch,
+}
+
+impl Difference {
+    /// The step at `at` of a case differs. The script of the whole case is kept
+    /// in a file, so that `probe` can be run on it.
+    pub fn in_case(case: &Case, at: usize, mismatch: Mismatch) -> Difference {
+        let name = format!("differential-{}-{}.script", case.kind, case.seed);
+        let path = std::env::temp_dir().join(name);
+        let kept = match std::fs::write(&path, case.script()) {
+            Ok(()) => format!("all of it is in {}", path.display()),
+            Err(error) => format!("it could not be kept: {error}"),
+        };
+        let steps = &case.steps[..=at];
+        let left_out = steps.len().saturating_sub(SHOWN_COMMANDS);
+        let mut given = format!("script, {kept}\n");
+        if left_out > 0 {
+            given += &format!("  ({left_out} commands)\n");
+        }
+        for step in &steps[left_out..] {
+            given += &format!("  {}\n", step.command);
+        }
+        Difference {
+            kind: case.kind,
+            seed: case.seed,
+            given,
+            mismatch,
+        }
+    }
+}
+
+impl Display for Difference {
+    fn fmt(&self, f: &mut fmt::Formatter<'_>) -> fmt::Result {
+        writeln!(f, "{}, seed {}: a difference", self.kind, self.seed)?;
+        writeln!(f, "{}", self.given)?;
+        writeln!(f, "expected: {}", self.mismatch.expected)?;
+        write!(f, "found: {}", self.mismatch.found)
+    }
+}
+
+/// The fields of two runs that differ.
+#[derive(Default)]
+struct Fields(Vec<(String, String)>);
+
+impl Fields {
+    fn compare<T: PartialEq + Debug>(&mut self, name: impl Display, expected: T, found: T) {
+        if expected != found {
+            let expected = format!("{name}: {expected:?}");
+            self.0.push((expected, format!("{name}: {found:?}")));
+        }
+    }
+
+    fn standings(&mut self, expected: &Record, found: &Record, rules: usize) {
+        for rule in 1..=rules {
+            for position in 1..=256 {
+                let at = place(rule, position);
+                let name = format_args!("standing of rule {rule} at position {position}");
+                self.compare(name, expected.standings[at], found.standings[at]);
+            }
+        }
+    }
+
+    fn mismatch(self) -> Mismatch {
+        let more = self.0.len().saturating_sub(SHOWN_FIELDS);
+        let (expected, found): (Vec<String>, Vec<String>) =
+            self.0.into_iter().take(SHOWN_FIELDS).unzip();
+        Mismatch {
+            expected: expected.join("; "),
+            found: format!("{} (and {more} more)", found.join("; ")),
+        }
+    }
+}
+
+/// The slots and cells in which two runs differ.
+pub fn differing_fields(expected: &Record, found: &Record) -> Mismatch {
+    let mut fields = Fields::default();
+    fields.compare("closed", expected.closed, found.closed);
+    fields.compare("event count", expected.count, found.count);
+    fields.compare("rule count", expected.table.count, found.table.count);
+    for (index, rule) in expected.table.rules.iter().enumerate() {
+        let name = format_args!("rule slot {index}");
+        fields.compare(name, *rule, found.table.rules[index]);
+    }
+    for (index, event) in expected.events.iter().enumerate() {
+        let name = format_args!("event slot {index}");
+        fields.compare(name, *event, found.events[index]);
+    }
+    fields.standings(expected, found, 16);
+    fields.mismatch()
+}
+
+/// The same for a run of the notebook: rule slots past the count, and the rows
+/// of rules that the table does not have, are not compared.
+pub fn differing_used_fields(expected: &Record, found: &Record) -> Result<(), Mismatch> {
+    let mut fields = Fields::default();
+    fields.compare("closed", expected.closed, found.closed);
+    fields.compare("event count", expected.count, found.count);
+    fields.compare("rules", expected.table.rules(), found.table.rules());
+    for (index, event) in expected.events.iter().enumerate() {
+        let name = format_args!("event slot {index}");
+        fields.compare(name, *event, found.events[index]);
+    }
+    fields.standings(expected, found, expected.table.count as usize);
+    match fields.0.is_empty() {
+        true => Ok(()),
+        false => Err(fields.mismatch()),
+    }
+}
+
+#[cfg(test)]
+mod tests {
+    use super::*;
+    use evaluator::{grown, Event, Rule};
+
+    fn run() -> Record {
+        let rules = [Rule::new(2, 1, 2, 0, None), Rule::new(9, 1, 2, 0, None)];
+        grown(&rules, &[Event::new(5, 1), Event::new(8, 1)])
+    }
+
+    #[test]
+    fn fields_that_differ_are_named() {
+        let mut other = run();
+        other.closed = true;
+        other.events[255].time = 9;
+        other.standings[place(16, 256)] = Standing::Fulfilled(3);
+        let mismatch = differing_fields(&run(), &other);
+        for part in [
+            "closed: false",
+            "event slot 255: ",
+            "rule 16 at position 256: Idle",
+        ] {
+            assert!(mismatch.expected.contains(part), "{mismatch:?}");
+        }
+        assert!(mismatch.found.contains("position 256: Fulfilled(3)"));
+        assert!(mismatch.found.ends_with("(and 0 more)"));
+    }
+
+    #[test]
+    fn every_used_field_of_a_notebook_run_is_compared() {
+        let changes: [fn(&mut Record); 7] = [
+            |run| run.closed = true,
+            |run| run.count = 3,
+            |run| run.table.count = 1,
+            |run| run.table.rules[1].target = 3,
+            |run| run.events[1].activity = 2,
+            |run| run.events[2].activity = 2,
+            |run| run.standings[place(2, 256)] = Standing::Open,
+        ];
+        for change in changes {
+            let mut other = run();
+            change(&mut other);
+            assert!(differing_used_fields(&run(), &other).is_err());
+        }
+    }
+
+    #[test]
+    fn unused_fields_of_a_notebook_run_are_free() {
+        let mut other = run();
+        other.table.rules[2].code = 0;
+        other.table.rules[1].correlation.comparisons[0].reading = 0;
+        other.standings[place(3, 1)] = Standing::Open;
+        assert_eq!(differing_used_fields(&run(), &other), Ok(()));
+    }
+
+    #[test]
+    fn a_difference_shows_seed_and_script() {
+        let mut case = Case::new("example", 42);
+        case.load_table(&TableRecord::of(&[]));
+        let mismatch = Mismatch {
+            expected: "one".to_string(),
+            found: "two".to_string(),
+        };
+        let shown = Difference::in_case(&case, 0, mismatch).to_string();
+        for part in [
+            "example, seed 42",
+            "t NewTable",
+            "expected: one",
+            "found: two",
+        ] {
+            assert!(shown.contains(part), "{shown}");
+        }
+        let empty = start(&TableRecord::of(&[])).expect("a run");
+        assert_eq!(differing_used_fields(&empty, &empty), Ok(()));
+    }
+}

@@ -1,0 +1,97 @@
+//! The program `report`, run in a folder of its own.
+
+use crate::probe::path_of;
+use std::path::{Path, PathBuf};
+use std::process::{Child, Command, Output, Stdio};
+use std::sync::atomic::{AtomicUsize, Ordering};
+use std::time::{Duration, Instant};
+
+/// `report` as a program to run.
+pub struct Report {
+    path: PathBuf,
+}
+
+impl Report {
+    /// The program that the variable REPORT names, or the one that was built.
+    pub fn find() -> Report {
+        Report {
+            path: path_of("REPORT", "report"),
+        }
+    }
+
+    fn command(&self, folder: &Path) -> Command {
+        let mut command = Command::new(&self.path);
+        command
+            .current_dir(folder)
+            .stdin(Stdio::null())
+            .stdout(Stdio::piped());
+        command
+    }
+
+    /// What it prints in a folder.
+    pub fn printed(&self, folder: &Path) -> Result<Vec<u8>, String> {
+        let output = self.command(folder).output();
+        ended(output.map_err(|error| error.to_string())?)
+    }
+
+    /// What it prints, if it ends within a time limit. What it prints has to
+    /// fit in a pipe.
+    pub fn printed_within(&self, folder: &Path, limit: Duration) -> Result<Vec<u8>, String> {
+        let child = self.command(folder).spawn();
+        let mut child = child.map_err(|error| error.to_string())?;
+        if !ends_within(&mut child, limit) {
+            drop(child.kill());
+            drop(child.wait());
+            return Err(format!("it did not end within {limit:?}"));
+        }
+        let output = child.wait_with_output();
+        ended(output.map_err(|error| error.to_string())?)
+    }
+}
+
+fn ends_within(child: &mut Child, limit: Duration) -> bool {
+    let begin = Instant::now();
+    while begin.elapsed() < limit {
+        if child.try_wait().expect("the state of report").is_some() {
+            return true;
+        }
+        std::thread::sleep(Duration::from_millis(2));
+    }
+    false
+}
+
+/// Document 01 names no status, so each one will do; a signal will not.
+fn ended(output: Output) -> Result<Vec<u8>, String> {
+    match output.status.code() {
+        Some(_) => Ok(output.stdout),
+        None => Err(format!("it ended with {}", output.status)),
+    }
+}
+
+/// A new folder below the folder for temporary files.
+pub struct Folder {
+    pub path: PathBuf,
+}
+
+impl Folder {
+    pub fn new() -> Folder {
+        static NUMBER: AtomicUsize = AtomicUsize::new(0);
+        let number = NUMBER.fetch_add(1, Ordering::Relaxed);
+        let name = format!("differential-{}-{number}", std::process::id());
+        let path = std::env::temp_dir().join(name);
+        std::fs::create_dir(&path).expect("a new folder");
+        Folder { path }
+    }
+
+    /// The folder is not needed any more. One that a difference was found in
+    /// is kept.
+    pub fn remove(self) {
+        std::fs::remove_dir_all(&self.path).expect("a folder to remove");
+    }
+}
+
+impl Default for Folder {
+    fn default() -> Folder {
+        Folder::new()
+    }
+}

@@ -1,0 +1,290 @@
+//! Scripts for `probe`, each step with what the evaluator expects of it.
+
+use crate::answer::Answer;
+use crate::command::Command;
+use crate::expected::Expected;
+use evaluator::slots::{COMPARISON_SLOTS, RULE_SLOTS};
+use evaluator::{absorb, notebook_record, place, start, Comparison, ConditionSlot, Event};
+use evaluator::{Operator, Record, Refusal, RuleSlot, Standing, TableRecord, Tally, Text};
+
+/// A command and what it has to answer, if it answers.
+#[derive(Debug, Clone)]
+pub struct Step {
+    pub command: Command,
+    pub expected: Option<Expected>,
+}
+
+/// A script that begins with a run of its own, so that what was done before it
+/// does not matter.
+#[derive(Debug, Clone)]
+pub struct Case {
+    pub kind: &'static str,
+    pub seed: u64,
+    pub steps: Vec<Step>,
+}
+
+impl Case {
+    pub fn new(kind: &'static str, seed: u64) -> Case {
+        Case {
+            kind,
+            seed,
+            steps: Vec::new(),
+        }
+    }
+
+    /// The bytes of all commands.
+    pub fn script(&self) -> Vec<u8> {
+        let mut script = Vec::new();
+        for step in &self.steps {
+            step.command.encode(&mut script);
+        }
+        script
+    }
+
+    /// A command without an answer.
+    pub fn send(&mut self, command: Command) {
+        self.steps.push(Step {
+            command,
+            expected: None,
+        });
+    }
+
+    /// A command with an answer.
+    pub fn ask(&mut self, command: Command, expected: Expected) {
+        self.steps.push(Step {
+            command,
+            expected: Some(expected),
+        });
+    }
+
+    /// Makes the run the one that start gives for a table without rules.
+    pub fn fresh(&mut self) {
+        self.send(Command::NewTable { count: 0 });
+        self.ask(Command::Start, Expected::Answer(Answer::plain(Ok(()))));
+    }
+
+    /// Makes the table under construction this one, slot by slot.
+    pub fn load_table(&mut self, table: &TableRecord) {
+        self.send(Command::NewTable { count: table.count });
+        for (slot, rule) in (0..).zip(&table.rules) {
+            self.load_rule(slot, rule);
+        }
+    }
+
+    /// What a new table has already is left out.
+    fn load_rule(&mut self, slot: u8, rule: &RuleSlot) {
+        let window = (rule.a, rule.end);
+        if (rule.code, rule.activation, rule.target, window) != (0, 0, 0, (0, None)) {
+            self.send(Command::SetRule {
+                slot,
+                code: rule.code,
+                activation: rule.activation,
+                target: rule.target,
+                a: rule.a,
+                end: rule.end,
+            });
+        }
+        self.load_condition(slot, false, &rule.activation_condition);
+        self.load_condition(slot, true, &rule.correlation);
+    }
+
+    fn load_condition(&mut self, slot: u8, correlation: bool, condition: &ConditionSlot) {
+        let count = condition.count;
+        if count != 0 {
+            self.send(Command::SetComparisonCount {
+                slot,
+                correlation,
+                count,
+            });
+        }
+        let unset = Comparison::with_constant(0, Operator::Equal, 0);
+        for (place, comparison) in (0..).zip(condition.comparisons) {
+            if comparison != unset {
+                self.send(Command::SetComparison {
+                    slot,
+                    correlation,
+                    place,
+                    comparison,
+                });
+            }
+        }
+    }
+
+    /// Makes the run this one, field by field. What a fresh run has already is
+    /// left out.
+    pub fn load_run(&mut self, run: &Record) {
+        self.fresh();
+        self.load_table(&run.table);
+        self.send(Command::SetTable);
+        self.send(Command::SetEventCount { count: run.count });
+        self.send(Command::SetClosed { closed: run.closed });
+        for (slot, event) in (0..).zip(&run.events) {
+            if *event != Event::new(0, 1) {
+                let event = *event;
+                self.send(Command::SetEvent { slot, event });
+            }
+        }
+        for (cell, standing) in (0..).zip(&run.standings) {
+            if *standing != Standing::Idle {
+                let standing = *standing;
+                self.send(Command::SetStanding { cell, standing });
+            }
+        }
+    }
+}
+
+/// The table that `t` makes: "all 16 rule slots with code 0, activities 0,
+/// window 0 to no end, and two conditions with count 0 whose four comparisons
+/// are reading 0, `=`, constant 0".
+pub fn new_table(count: u64) -> TableRecord {
+    let unset = Comparison::with_constant(0, Operator::Equal, 0);
+    let condition = ConditionSlot {
+        count: 0,
+        comparisons: [unset; COMPARISON_SLOTS],
+    };
+    let rule = RuleSlot {
+        code: 0,
+        activation: 0,
+        target: 0,
+        a: 0,
+        end: None,
+        activation_condition: condition,
+        correlation: condition,
+    };
+    TableRecord {
+        count,
+        rules: [rule; RULE_SLOTS],
+    }
+}
+
+/// A case together with the evaluator's run and tally. Each call is made on
+/// both, and the evaluator's answer is the expected one.
+pub struct Session {
+    pub case: Case,
+    pub run: Record,
+    pub tally: Tally,
+}
+
+impl Session {
+    /// A session on a run as it is handed in.
+    pub fn on(kind: &'static str, seed: u64, run: Record) -> Session {
+        let mut case = Case::new(kind, seed);
+        case.load_run(&run);
+        Session {
+            case,
+            run,
+            tally: Tally::default(),
+        }
+    }
+
+    /// A session on the run that start gives for a valid table.
+    pub fn started(kind: &'static str, seed: u64, table: &TableRecord) -> Session {
+        let run = start(table).expect("a valid table");
+        let mut case = Case::new(kind, seed);
+        case.load_table(table);
+        case.ask(Command::Start, Expected::Answer(Answer::plain(Ok(()))));
+        Session {
+            case,
+            run,
+            tally: Tally::default(),
+        }
+    }
+
+    fn ask(&mut self, command: Command, answer: Answer) {
+        self.case.ask(command, Expected::Answer(answer));
+    }
+
+    /// Start from a table; an accepted one becomes the run.
+    pub fn start(&mut self, table: &TableRecord) -> Result<(), Refusal> {
+        self.case.load_table(table);
+        let answer = start(table).map(|run| self.run = run);
+        self.ask(Command::Start, Answer::plain(answer));
+        answer
+    }
+
+    pub fn take(&mut self, event: Event) -> Result<(), Refusal> {
+        let (run, answer) = self.run.clone().take(event);
+        self.run = run;
+        self.ask(Command::Take(event), Answer::plain(answer));
+        answer
+    }
+
+    pub fn close(&mut self) -> Result<(), Refusal> {
+        let (run, answer) = self.run.clone().close();
+        self.run = run;
+        self.ask(Command::Close, Answer::plain(answer));
+        answer
+    }
+
+    pub fn standing(&mut self, rule: u32, position: u32) -> Result<Standing, Refusal> {
+        let answer = self.run.standing(u64::from(rule), u64::from(position));
+        let command = Command::Standing { rule, position };
+        self.ask(command, Answer::standing(answer));
+        answer
+    }
+
+    pub fn totals(&mut self, rule: u64) -> Result<(), Refusal> {
+        let answer = self.run.totals(rule);
+        self.ask(Command::Totals { rule }, Answer::totals(answer));
+        answer.map(|_| ())
+    }
+
+    /// The totals of every rule.
+    pub fn all_totals(&mut self) {
+        for rule in 1..=self.run.table.count {
+            self.totals(rule).expect("totals of a rule");
+        }
+    }
+
+    pub fn set_tally(&mut self, tally: Tally) {
+        self.tally = tally;
+        self.case.send(Command::SetTally(tally));
+    }
+
+    pub fn absorb(&mut self, rule: u64) -> Result<(), Refusal> {
+        let answer = absorb(&self.run, rule, &mut self.tally);
+        self.ask(Command::Absorb { rule }, Answer::plain(answer));
+        let expected = Expected::Tally(self.tally);
+        self.case.ask(Command::DumpTally, expected);
+        answer
+    }
+
+    /// The notebook reading of two texts; an accepted run becomes the run.
+    pub fn notebook(&mut self, rules: Vec<u8>, cycle: Vec<u8>) -> Result<(), (Text, Refusal)> {
+        let answer = notebook_record(&rules, &cycle).map(|run| self.run = run);
+        let command = Command::Notebook { rules, cycle };
+        self.ask(command, Answer::notebook(answer));
+        answer
+    }
+
+    /// The standings of each rule at the taken positions.
+    pub fn rows(&self) -> Vec<Vec<Standing>> {
+        let row = |rule| {
+            let first = place(rule, 1);
+            self.run.standings[first..first + self.run.count as usize].to_vec()
+        };
+        (1..=self.run.table.count as usize).map(row).collect()
+    }
+
+    /// Compares every standing of the rules at the taken positions.
+    pub fn compare_standings(&mut self) {
+        let used = &self.run.table.rules[..self.run.table.count as usize];
+        let expected = Expected::Standings {
+            codes: used.iter().map(|rule| rule.code).collect(),
+            rows: self.rows(),
+        };
+        self.case.ask(Command::DumpStandings, expected);
+    }
+
+    /// Compares what document 01 fixes of a run of the notebook.
+    pub fn compare_notebook_run(&mut self) {
+        let expected = Expected::NotebookRun(Box::new(self.run.clone()));
+        self.case.ask(Command::DumpRun, expected);
+    }
+
+    /// Compares the whole run.
+    pub fn compare_run(&mut self) {
+        let expected = Expected::Run(Box::new(self.run.clone()));
+        self.case.ask(Command::DumpRun, expected);
+    }
+}

@@ -1,0 +1,500 @@
+//! A stand-in for `probe`: its commands, answered by the evaluator, rightly or
+//! with a mistake. It shows that the comparison finds what it has to find.
+
+use crate::command::{kind_and_target, COMMAND_BYTES};
+use crate::probe::{Answers, Program};
+use crate::script::new_table;
+use evaluator::slots::{EVENT_SLOTS, RULE_SLOTS};
+use evaluator::{absorb, notebook_record, place, read_cycle, read_rules, start, verdicts};
+use evaluator::{Comparison, ConditionSlot, Event, Operator, Record, Reference, Refusal};
+use evaluator::{RuleSlot, Standing, TableRecord, Tally, Text};
+
+/// A mistake to be found.
+#[derive(Debug, Clone, Copy, PartialEq, Eq)]
+pub enum Mistake {
+    None,
+    /// Every activation is judged as if the cycle were finished.
+    NeverOpen,
+    /// A take judges decided standings anew.
+    JudgesAnew,
+    /// A take clears the rows of rules that the table does not have.
+    ClearsRows,
+    /// A refused take puts its event in the next slot.
+    KeepsRefused,
+    /// Close turns every open standing into violated.
+    ClosesToViolated,
+    /// Totals leave the open ones out of the activations.
+    TotalsWithoutOpen,
+    /// Numbers of rules and positions are cut to 8 bits.
+    CutsNumbers,
+    /// A closed run is refused with 9 before its record is checked.
+    ClosedFirst,
+    /// Lines count from 0.
+    LinesFromZero,
+    /// A rules text loses its last comparisons.
+    DropsComparisons,
+    /// A cycle text has 0 for a blank.
+    ReadsBlanksAsZero,
+    /// The notebook names the position after the target.
+    NamesTheNext,
+    /// A refused absorb has counted the cycle.
+    CountsRefused,
+    /// The last four bytes of the answers are missing.
+    EndsEarly,
+}
+
+impl Mistake {
+    pub const ALL: [Mistake; 14] = [
+        Mistake::NeverOpen,
+        Mistake::JudgesAnew,
+        Mistake::ClearsRows,
+        Mistake::KeepsRefused,
+        Mistake::ClosesToViolated,
+        Mistake::TotalsWithoutOpen,
+        Mistake::CutsNumbers,
+        Mistake::ClosedFirst,
+        Mistake::LinesFromZero,
+        Mistake::DropsComparisons,
+        Mistake::ReadsBlanksAsZero,
+        Mistake::NamesTheNext,
+        Mistake::CountsRefused,
+        Mistake::EndsEarly,
+    ];
+}
+
+pub struct StandIn {
+    pub mistake: Mistake,
+}
+
+impl Program for StandIn {
+    fn answers(&self, script: &[u8]) -> Answers {
+        let mut state = State::new(self.mistake);
+        let mut rest = script;
+        while rest.len() >= COMMAND_BYTES {
+            let (command, after) = rest.split_at(COMMAND_BYTES);
+            rest = state.run(&Read(command), after);
+        }
+        if self.mistake == Mistake::EndsEarly {
+            state.answers.truncate(state.answers.len().max(4) - 4);
+        }
+        Answers {
+            bytes: state.answers,
+            bad_end: None,
+        }
+    }
+}
+
+/// The fields of a command.
+struct Read<'a>(&'a [u8]);
+
+impl Read<'_> {
+    fn b(&self, number: usize) -> u8 {
+        self.0[number]
+    }
+
+    fn u32(&self, at: usize) -> u32 {
+        u32::from_le_bytes(self.0[at..at + 4].try_into().expect("4 bytes"))
+    }
+
+    fn p(&self) -> u32 {
+        self.u32(8)
+    }
+
+    fn q(&self) -> u32 {
+        self.u32(12)
+    }
+
+    fn n(&self) -> u64 {
+        u64::from(self.p()) | u64::from(self.q()) << 32
+    }
+
+    fn r(&self, number: usize) -> u32 {
+        self.u32(12 + 4 * number)
+    }
+
+    fn event(&self) -> Event {
+        let mut event = Event::new(self.q(), self.b(1));
+        for (index, reading) in event.readings.iter_mut().enumerate() {
+            let blank = self.b(2) >> index & 1 == 1;
+            *reading = (!blank).then_some(self.r(index + 1) as i32);
+        }
+        event
+    }
+
+    fn standing(&self) -> Standing {
+        let target = self.q() as u16;
+        match self.b(1) {
+            0 => Standing::Idle,
+            1 => Standing::Open,
+            2 => Standing::Fulfilled(target),
+            _ => Standing::Violated(target),
+        }
+    }
+
+    fn comparison(&self) -> Comparison {
+        let plus = self.r(1) as i32;
+        Comparison {
+            reading: self.b(4),
+            operator: Operator::ALL[usize::from(self.b(5))],
+            reference: match self.b(6) {
+                0 => Reference::Constant(plus),
+                _ => Reference::Activation {
+                    reading: self.b(7),
+                    plus,
+                },
+            },
+        }
+    }
+}
+
+struct State {
+    mistake: Mistake,
+    table: TableRecord,
+    run: Record,
+    tally: Tally,
+    answers: Vec<u8>,
+}
+
+impl State {
+    fn new(mistake: Mistake) -> State {
+        let table = new_table(0);
+        State {
+            mistake,
+            run: start(&table).expect("a valid table"),
+            table,
+            tally: Tally::default(),
+            answers: Vec::new(),
+        }
+    }
+
+    fn has(&self, mistake: Mistake) -> bool {
+        self.mistake == mistake
+    }
+
+    /// Runs a command and gives back what comes after it and its texts.
+    fn run<'a>(&mut self, read: &Read, after: &'a [u8]) -> &'a [u8] {
+        match read.b(0) {
+            b'R' | b'Y' => {
+                let (text, rest) = after.split_at(read.n() as usize);
+                self.read_text(read.b(0), text);
+                rest
+            }
+            b'N' => {
+                let (rules, rest) = after.split_at(read.p() as usize);
+                let (cycle, rest) = rest.split_at(read.q() as usize);
+                self.notebook(rules, cycle);
+                rest
+            }
+            b't' | b'r' | b'n' | b'c' => {
+                self.set_table(read);
+                after
+            }
+            b'T' | b'C' | b'F' | b'E' | b'S' | b'A' => {
+                self.set_field(read);
+                after
+            }
+            b'd' | b'D' | b'B' => {
+                self.dump(read.b(0));
+                after
+            }
+            _ => {
+                self.call(read);
+                after
+            }
+        }
+    }
+
+    fn set_table(&mut self, read: &Read) {
+        if read.b(0) == b't' {
+            self.table = new_table(read.n());
+            return;
+        }
+        let rule = &mut self.table.rules[usize::from(read.b(1))];
+        if read.b(0) == b'r' {
+            let end = (read.b(5) != 0).then_some(read.q());
+            *rule = RuleSlot {
+                code: read.b(2),
+                activation: read.b(3),
+                target: read.b(4),
+                a: read.p(),
+                end,
+                ..*rule
+            };
+            return;
+        }
+        let condition = match read.b(2) {
+            0 => &mut rule.activation_condition,
+            _ => &mut rule.correlation,
+        };
+        match read.b(0) {
+            b'n' => condition.count = read.b(3),
+            _ => condition.comparisons[usize::from(read.b(3))] = read.comparison(),
+        }
+    }
+
+    fn set_field(&mut self, read: &Read) {
+        let at = read.p() as usize;
+        match read.b(0) {
+            b'T' => self.run.table = self.table.clone(),
+            b'C' => self.run.count = read.n(),
+            b'F' => self.run.closed = read.b(1) != 0,
+            b'E' => self.run.events[at] = read.event(),
+            b'S' => self.run.standings[at] = read.standing(),
+            _ => {
+                self.tally = Tally {
+                    cycles: read.r(1),
+                    activations: read.r(2),
+                    fulfilled: read.r(3),
+                    violated: read.r(4),
+                }
+            }
+        }
+    }
+
+    /// Adds the 16 bytes of an answer.
+    fn answer(&mut self, refusal: Option<Refusal>, rest: [u8; 12]) {
+        let mut head = [0; 4];
+        if let Some(Refusal { number, line }) = refusal {
+            head[0] = number;
+            if let Some(line) = line {
+                let less = usize::from(self.has(Mistake::LinesFromZero));
+                let line = line.saturating_sub(less) as u16;
+                head[1] = 1;
+                head[2..].copy_from_slice(&line.to_le_bytes());
+            }
+        }
+        self.answers.extend(head);
+        self.answers.extend(rest);
+    }
+
+    fn call(&mut self, read: &Read) {
+        match read.b(0) {
+            b's' => {
+                let answer = start(&self.table).map(|run| self.run = run);
+                self.answer(answer.err(), [0; 12]);
+            }
+            b'e' => self.take(read.event()),
+            b'x' => self.close(),
+            b'g' => self.standing(u64::from(read.p()), u64::from(read.q())),
+            b'o' => self.totals(read.n()),
+            b'b' => {
+                let answer = absorb(&self.run, read.n(), &mut self.tally);
+                if answer.is_err() && self.has(Mistake::CountsRefused) {
+                    self.tally.cycles = self.tally.cycles.saturating_add(1);
+                }
+                self.answer(answer.err(), [0; 12]);
+            }
+            other => panic!("{} is no command", char::from(other)),
+        }
+    }
+
+    fn take(&mut self, event: Event) {
+        if self.run.closed && self.has(Mistake::ClosedFirst) {
+            return self.answer(Some(Refusal::plain(9)), [0; 12]);
+        }
+        let (mut run, answer) = self.run.clone().take(event);
+        let count = run.count as usize;
+        if answer.is_err() && self.has(Mistake::KeepsRefused) && count < EVENT_SLOTS {
+            run.events[count] = event;
+        }
+        if answer.is_ok() {
+            self.change_taken(&mut run);
+        }
+        self.run = run;
+        self.answer(answer.err(), [0; 12]);
+    }
+
+    fn change_taken(&self, run: &mut Record) {
+        let rules = run.table.rules().expect("a valid table");
+        let events = &run.events[..run.count as usize];
+        if self.has(Mistake::ClearsRows) {
+            run.standings[rules.len() * EVENT_SLOTS..].fill(Standing::Idle);
+        }
+        for (index, rule) in rules.iter().enumerate() {
+            let first = place(index + 1, 1);
+            let row = &mut run.standings[first..first + events.len()];
+            if self.has(Mistake::NeverOpen) {
+                row.copy_from_slice(&verdicts(rule, events));
+            }
+            if self.has(Mistake::JudgesAnew) {
+                row.copy_from_slice(&evaluator::standings(rule, events));
+            }
+        }
+    }
+
+    fn close(&mut self) {
+        let before = self.run.clone();
+        let (mut run, answer) = self.run.clone().close();
+        if answer.is_ok() && self.has(Mistake::ClosesToViolated) {
+            let used = run.table.count as usize * EVENT_SLOTS;
+            for (new, old) in run.standings[..used].iter_mut().zip(&before.standings) {
+                if *old == Standing::Open {
+                    *new = Standing::Violated(0);
+                }
+            }
+        }
+        self.run = run;
+        self.answer(answer.err(), [0; 12]);
+    }
+
+    fn number(&self, number: u64) -> u64 {
+        match self.has(Mistake::CutsNumbers) {
+            true => number & 255,
+            false => number,
+        }
+    }
+
+    fn standing(&mut self, rule: u64, position: u64) {
+        let answer = self.run.standing(self.number(rule), self.number(position));
+        let mut rest = [0; 12];
+        if let Ok(standing) = answer {
+            let (kind, target) = kind_and_target(standing);
+            rest[0] = kind;
+            rest[2..4].copy_from_slice(&target.to_le_bytes());
+        }
+        self.answer(answer.err(), rest);
+    }
+
+    fn totals(&mut self, rule: u64) {
+        let answer = self.run.totals(self.number(rule));
+        let mut rest = [0; 12];
+        if let Ok(mut totals) = answer {
+            if self.has(Mistake::TotalsWithoutOpen) {
+                totals.activations -= totals.open;
+            }
+            let four = [
+                totals.activations,
+                totals.fulfilled,
+                totals.violated,
+                totals.open,
+            ];
+            for (place, total) in rest[4..].chunks_mut(2).zip(four) {
+                place.copy_from_slice(&(total as u16).to_le_bytes());
+            }
+        }
+        self.answer(answer.err(), rest);
+    }
+
+    fn read_text(&mut self, letter: u8, text: &[u8]) {
+        if letter == b'R' {
+            let answer = read_rules(text).map(|mut rules| {
+                if self.has(Mistake::DropsComparisons) {
+                    rules
+                        .iter_mut()
+                        .for_each(|rule| drop(rule.correlation.pop()));
+                }
+                self.table = TableRecord::of(&rules);
+            });
+            return self.answer(answer.err(), [0; 12]);
+        }
+        let answer = read_cycle(text).map(|mut events| {
+            if self.has(Mistake::ReadsBlanksAsZero) {
+                let readings = events.iter_mut().flat_map(|event| &mut event.readings);
+                readings.for_each(|reading| *reading = Some(reading.unwrap_or(0)));
+            }
+            self.run.count = events.len() as u64;
+            self.run.events[..events.len()].copy_from_slice(&events);
+        });
+        self.answer(answer.err(), [0; 12]);
+    }
+
+    fn notebook(&mut self, rules: &[u8], cycle: &[u8]) {
+        let mut rest = [0; 12];
+        let refusal = match notebook_record(rules, cycle) {
+            Ok(mut run) => {
+                if self.has(Mistake::NamesTheNext) {
+                    run.standings.iter_mut().for_each(name_next);
+                }
+                self.run = run;
+                None
+            }
+            Err((text, refusal)) => {
+                rest[1] = if text == Text::Rules { 1 } else { 2 };
+                Some(refusal)
+            }
+        };
+        self.answer(refusal, rest);
+    }
+
+    fn dump(&mut self, letter: u8) {
+        match letter {
+            b'd' => {
+                for rule in 1..=self.run.table.count.min(16) as usize {
+                    for position in 1..=self.run.count.min(256) as usize {
+                        let standing = self.run.standings[place(rule, position)];
+                        self.answers.extend(standing_bytes(standing));
+                    }
+                }
+            }
+            b'D' => self.answers.extend(run_bytes(&self.run)),
+            _ => {
+                let tally = self.tally;
+                let four = [
+                    tally.cycles,
+                    tally.activations,
+                    tally.fulfilled,
+                    tally.violated,
+                ];
+                self.answers
+                    .extend(four.iter().flat_map(|n| n.to_le_bytes()));
+            }
+        }
+    }
+}
+
+fn name_next(standing: &mut Standing) {
+    *standing = match *standing {
+        Standing::Fulfilled(target @ 1..) => Standing::Fulfilled(target + 1),
+        other => other,
+    };
+}
+
+fn standing_bytes(standing: Standing) -> [u8; 4] {
+    let (kind, target) = kind_and_target(standing);
+    let [low, high] = target.to_le_bytes();
+    [kind, 0, low, high]
+}
+
+fn run_bytes(run: &Record) -> Vec<u8> {
+    let mut bytes = vec![u8::from(run.closed), 0, 0, 0, 0, 0, 0, 0];
+    bytes.extend(run.count.to_le_bytes());
+    bytes.extend(run.table.count.to_le_bytes());
+    for rule in &run.table.rules[..RULE_SLOTS] {
+        let ends = u8::from(rule.end.is_some());
+        bytes.extend([rule.code, rule.activation, rule.target, ends]);
+        bytes.extend(rule.a.to_le_bytes());
+        bytes.extend(rule.end.unwrap_or(0).to_le_bytes());
+        bytes.extend(condition_bytes(&rule.activation_condition));
+        bytes.extend(condition_bytes(&rule.correlation));
+    }
+    for event in &run.events {
+        let blank = |index: usize| u8::from(event.readings[index].is_none()) << index;
+        let blanks = (0..4).map(blank).sum();
+        bytes.extend(event.time.to_le_bytes());
+        bytes.extend([event.activity, blanks, 0, 0]);
+        for reading in event.readings {
+            bytes.extend(reading.unwrap_or(0).to_le_bytes());
+        }
+    }
+    for standing in &run.standings {
+        bytes.extend(standing_bytes(*standing));
+    }
+    bytes
+}
+
+fn condition_bytes(condition: &ConditionSlot) -> Vec<u8> {
+    let mut bytes = vec![condition.count, 0, 0, 0];
+    for comparison in condition.comparisons {
+        let operator = Operator::ALL
+            .iter()
+            .position(|known| *known == comparison.operator)
+            .expect("a known operator") as u8;
+        let (kind, g, k) = match comparison.reference {
+            Reference::Constant(k) => (0, 0, k),
+            Reference::Activation { reading, plus } => (1, reading, plus),
+        };
+        bytes.extend([comparison.reading, operator, kind, g]);
+        bytes.extend(k.to_le_bytes());
+    }
+    bytes
+}
