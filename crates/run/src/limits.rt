@@ -1,0 +1,144 @@
+// The limits of rules and events: every number against its range. A test that the number's type decides costs nothing.
+ghost use mathlib.Core.Path.{_≡_};
+ghost use mathlib.Core.Bool.{false, true};
+ghost use Rattle.declare.specs.Lists.{all};
+ghost use Rattle.declare.specs.Comparisons.{operandOf};
+ghost use Rattle.declare.specs.Conditions.{comparisonsOf};
+ghost use Rattle.declare.specs.Events.{inRange, isActivity, wellFormed};
+ghost use Rattle.declare.specs.Rules.{isReading, validReference, validComparison, noneTwice, validCondition, validEnd, validWindow, validHead, validRule};
+ghost use Rattle.declare.specs.declared.Operand.the-variants.{Exact};
+use declare::Comparison;
+use declare::Condition;
+use declare::End;
+use declare::Event;
+use declare::Reading;
+use declare::Reference;
+use declare::Rule;
+use declare::Window;
+
+// Whether v may be a reading or a constant.
+fn in_range(v: i32) -> bool
+    ensures { λ r. ⌜ r ≡ inRange (Exact v) ⌝ }
+{
+    (-2147483648 <= v) & (v <= 2147483647)
+}
+
+fn reading_in_range(reading: Reading) -> bool
+    ensures { λ r. ⌜ r ≡ inRange (operandOf reading) ⌝ }
+{
+    match reading {
+        Reading::Blank => true,
+        Reading::Value(v) => in_range(v),
+    }
+}
+
+fn is_activity(a: u8) -> bool
+    ensures { λ r. ⌜ r ≡ isActivity a ⌝ }
+{
+    (1 <= a) & (a <= 64)
+}
+
+pub fn well_formed(e: Event) -> bool
+    ensures { λ r. ⌜ r ≡ wellFormed e ⌝ }
+{
+    let first = e.reading1;
+    let second = e.reading2;
+    let third = e.reading3;
+    let fourth = e.reading4;
+    (e.time <= 4294967295)
+        & is_activity(e.activity)
+        & reading_in_range(first)
+        & reading_in_range(second)
+        & reading_in_range(third)
+        & reading_in_range(fourth)
+}
+
+fn is_reading(k: u8) -> bool
+    ensures { λ r. ⌜ r ≡ isReading k ⌝ }
+{
+    (1 <= k) & (k <= 4)
+}
+
+// The activation's readings are named in a correlation only.
+fn valid_reference(correlation: bool, reference: Reference) -> bool
+    ensures { λ r. ⌜ r ≡ validReference correlation reference ⌝ }
+{
+    match reference {
+        Reference::Constant(k) => in_range(k),
+        Reference::Activation(g, k) => correlation & is_reading(g) & in_range(k),
+    }
+}
+
+fn valid_comparison(correlation: bool, c: Comparison) -> bool
+    ensures { λ r. ⌜ r ≡ validComparison correlation c ⌝ }
+{
+    let reference = c.reference;
+    is_reading(c.reading) & valid_reference(correlation, reference)
+}
+
+// The comparisons up to the count.
+fn valid_comparisons(correlation: bool, c: Condition) -> bool
+    ensures { λ r. ⌜ r ≡ all (validComparison correlation) (comparisonsOf c) ⌝ }
+{
+    let n = c.count;
+    ((n < 1) | valid_comparison(correlation, c.first))
+        & ((n < 2) | valid_comparison(correlation, c.second))
+        & ((n < 3) | valid_comparison(correlation, c.third))
+        & ((n < 4) | valid_comparison(correlation, c.fourth))
+}
+
+// Whether no two comparisons up to the count name the same reading.
+fn none_twice(c: Condition) -> bool
+    ensures { λ r. ⌜ r ≡ noneTwice (comparisonsOf c) ⌝ }
+{
+    let n = c.count;
+    let first = c.first.reading;
+    let second = c.second.reading;
+    let third = c.third.reading;
+    let fourth = c.fourth.reading;
+    ((n < 2) | (first != second))
+        & ((n < 3) | (first != third) & (second != third))
+        & ((n < 4) | (first != fourth) & (second != fourth) & (third != fourth))
+}
+
+fn valid_condition(correlation: bool, c: Condition) -> bool
+    ensures { λ r. ⌜ r ≡ validCondition correlation c ⌝ }
+{
+    (c.count <= 4) & valid_comparisons(correlation, c) & none_twice(c)
+}
+
+// Whether b, the end, is above a, the start.
+fn valid_end(a: u32, until: End) -> bool
+    ensures { λ r. ⌜ r ≡ validEnd a until ⌝ }
+{
+    match until {
+        End::Never => true,
+        End::At(b) => (a < b) & (b <= 4294967295),
+    }
+}
+
+fn valid_window(w: Window) -> bool
+    ensures { λ r. ⌜ r ≡ validWindow w ⌝ }
+{
+    let until = w.until;
+    (w.from <= 4294967295) & valid_end(w.from, until)
+}
+
+// All of a rule but its conditions.
+fn valid_head(rule: Rule) -> bool
+    ensures { λ r. ⌜ r ≡ validHead rule ⌝ }
+{
+    (1 <= rule.code)
+        & (rule.code <= 12)
+        & is_activity(rule.activation)
+        & is_activity(rule.target)
+        & valid_window(rule.window)
+}
+
+pub fn valid_rule(rule: Rule) -> bool
+    ensures { λ r. ⌜ r ≡ validRule rule ⌝ }
+{
+    valid_head(rule)
+        & valid_condition(false, rule.condition)
+        & valid_condition(true, rule.correlation)
+}

@@ -1,0 +1,117 @@
+// Whether a record is valid: the causes of refusal 11.
+ghost use mathlib.Core.Path.{_≡_};
+ghost use Prim.Native.Nat.{_+_, _≤_};
+ghost use Rattle.declare.specs.Rules.{validTable};
+ghost use Rattle.run.specs.Records.{isIdle, validEvents, validStanding, validAt, validStandings, validRun};
+use crate::Run;
+use crate::limits::valid_rule;
+use crate::limits::well_formed;
+use declare::Event;
+use declare::Standing;
+use declare::Table;
+use judge::Cell;
+
+// Whether the table is valid: its count, and the rules up to it.
+pub fn valid_table(table: Table) -> bool
+    ensures { λ r. ⌜ r ≡ validTable table ⌝ }
+{
+    let count = table.count;
+    if 16 < count {
+        return false;
+    }
+    let mut valid = true;
+    for k in 0..count {
+        let rule = table.rules[k];
+        valid = valid & valid_rule(rule);
+    }
+    valid
+}
+
+// Whether the first `count` events are well-formed and their times do not fall.
+fn valid_events(count: usize, events: [Event; 256]) -> bool
+    ensures { λ r. ⌜ r ≡ validEvents count events ⌝ }
+{
+    if 256 < count {
+        return false;
+    }
+    let mut valid = true;
+    let mut last = 0;
+    for p in 0..count {
+        let e = events[p];
+        valid = valid & well_formed(e) & (last <= e.time);
+        last = e.time;
+    }
+    valid
+}
+
+fn is_idle(s: Standing) -> bool
+    ensures { λ r. ⌜ r ≡ isIdle s ⌝ }
+{
+    match s {
+        Standing::Idle => true,
+        Standing::Open => false,
+        Standing::Fulfilled(_) => false,
+        Standing::Violated(_) => false,
+    }
+}
+
+// A target as a position.
+fn position(target: u16) -> usize
+    ensures { λ r. ⌜ r ≡ target ⌝ }
+{
+    target as usize
+}
+
+// Whether s may stand at a taken position.
+fn valid_standing(closed: bool, count: usize, s: Standing) -> bool
+    ensures { λ r. ⌜ r ≡ validStanding closed count s ⌝ }
+{
+    match s {
+        Standing::Idle => true,
+        Standing::Open => !closed,
+        Standing::Fulfilled(j) => position(j) <= count,
+        Standing::Violated(j) => position(j) <= count,
+    }
+}
+
+// Whether s may stand at place p of a row, that is at position p + 1; past the count only idle may.
+fn valid_at(closed: bool, count: usize, p: usize, s: Standing) -> bool
+    ensures { λ r. ⌜ r ≡ validAt closed count (p + 1) s ⌝ }
+{
+    if p < count {
+        valid_standing(closed, count, s)
+    } else {
+        is_idle(s)
+    }
+}
+
+// Whether every cell of the first `rules` rows may stand where it does.
+fn valid_standings(closed: bool, rules: usize, count: usize, cells: [Cell; 4096]) -> bool
+    requires { ⌜ rules ≤ 16 ⌝ }
+    ensures { λ r. ⌜ r ≡ validStandings closed rules count cells ⌝ }
+{
+    let end = rules * 256;
+    let mut valid = true;
+    for j in 0..end {
+        let c = cells[j];
+        let s = c.standing;
+        valid = valid & valid_at(closed, count, j % 256, s);
+    }
+    valid
+}
+
+// Whether nothing in the record is a cause of refusal 11.
+pub fn valid_run(run: Run) -> bool
+    ensures { λ r. ⌜ r ≡ validRun run ⌝ }
+{
+    let table = run.table;
+    let events = run.events;
+    let cells = run.cells;
+    if !valid_table(table) {
+        return false;
+    }
+    if !valid_events(run.count, events) {
+        return false;
+    }
+    valid_standings(run.closed, table.count, run.count, cells)
+}

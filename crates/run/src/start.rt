@@ -1,0 +1,96 @@
+// The call start: the run for a table of rules.
+ghost use mathlib.Core.Path.{_≡_};
+ghost use Rattle.run.specs.Replies.{replyOf};
+ghost use Rattle.run.specs.Start.{newRun, startOf, emptyTable, started};
+use crate::Answer;
+use crate::Run;
+use crate::Step;
+use crate::record::valid_table;
+use declare::Comparison;
+use declare::Condition;
+use declare::End;
+use declare::Event;
+use declare::Operator;
+use declare::Reading;
+use declare::Reference;
+use declare::Refusal;
+use declare::Rule;
+use declare::Standing;
+use declare::Table;
+use declare::Window;
+use judge::Cell;
+
+// The run that has taken nothing yet.
+fn new_run(table: Table) -> Run
+    ensures { λ r. ⌜ r ≡ newRun table ⌝ }
+{
+    let slot = Event {
+        time: 0,
+        activity: 1,
+        reading1: Reading::Blank,
+        reading2: Reading::Blank,
+        reading3: Reading::Blank,
+        reading4: Reading::Blank,
+    };
+    let idle = Cell {
+        standing: Standing::Idle,
+    };
+    Run {
+        closed: false,
+        table: table,
+        count: 0,
+        events: [slot; 256],
+        cells: [idle; 4096],
+    }
+}
+
+// A table of no rules.
+fn empty_table() -> Table
+    ensures { λ r. ⌜ r ≡ emptyTable ⌝ }
+{
+    let comparison = Comparison {
+        reading: 0,
+        operator: Operator::Equal,
+        reference: Reference::Constant(0),
+    };
+    let condition = Condition {
+        count: 0,
+        first: comparison,
+        second: comparison,
+        third: comparison,
+        fourth: comparison,
+    };
+    let rule = Rule {
+        code: 0,
+        activation: 0,
+        target: 0,
+        window: Window {
+            from: 0,
+            until: End::Never,
+        },
+        condition: condition,
+        correlation: condition,
+    };
+    Table {
+        count: 0,
+        rules: [rule; 16],
+    }
+}
+
+impl Run {
+    // The run for a table. Refused with 11 if the table is not valid; beside that stands the run for the empty table.
+    pub fn start(table: Table) -> Step
+        ensures { λ r. ⌜ (replyOf r ≡ startOf table) × (r .run ≡ started table) ⌝ }
+    {
+        if !valid_table(table) {
+            return Step {
+                answer: Answer::Refused(Refusal::InvalidRecord),
+                run: new_run(empty_table()),
+            };
+        }
+        Step {
+            answer: Answer::Done,
+            run: new_run(table),
+        }
+    }
+}
