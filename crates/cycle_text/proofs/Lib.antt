@@ -2,3 +2,4 @@
 pub mod Steps
 pub mod Turns
 pub mod RoundTrips
+pub mod Vectors

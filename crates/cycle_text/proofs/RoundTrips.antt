@@ -1,8 +1,8 @@
 -- What an accepted text gives, and that writing and reading undo each other: first for one line, then for a text by the laws of texts.
-use mathlib.Core.Path.{_≡_, refl, sym, _∙_, ap}
-use mathlib.Core.Bool.{Bool, true, false, _&&_}
+use mathlib.Core.Path.{_≡_, refl, _∙_, ap}
+use mathlib.Core.Bool.{true}
 use mathlib.Core.List.{List, [], _∷_, _++_}
-use Prim.Native.Nat.{ℕ, suc, _+_, _≤_, _<_}
+use Prim.Native.Nat.{ℕ, _+_, _≤_, _<_}
 use native.Mathlib.Omega.{arith}
 use borrow.Author.Tests.{leb-true, le-leb, ltb-true, lt-ltb, eqb-true}
 use lib.Dec.{leb}
@@ -10,14 +10,12 @@ use lib.ListN.{length, getD, length-append}
 use Rattle.declare.specs.Lists.{all}
 use Rattle.declare.specs.Comparisons.{operandOf}
 use Rattle.declare.specs.Events.{latest, inRange, isActivity, readingsInRange, wellFormed, nonFallingFrom, nonFalling, lastFrom, lastTime}
-use Rattle.declare.proofs.Booleans.{and₂, and₃, both, both₃, all-append}
+use Rattle.declare.proofs.Booleans.{and₂, and₃, all-append}
 use Rattle.declare.proofs.Extension.{non-falling-parts}
-use Rattle.number.specs.Written.{digitsOf}
 use Rattle.line.specs.Fields.{LF, tab}
-use Rattle.line.specs.Answers.{Answer, Of, No, _>>=_, _>>_, require}
-use Rattle.line.specs.Values.{numberField, readingField, readingText}
-use Rattle.line.specs.Texts.{All, writtenText}
-use Rattle.line.proofs.Answers.{of-of, Through, through, required}
+use Rattle.line.specs.Answers.{Of, _>>=_, _>>_, require}
+use Rattle.line.specs.Values.{numberField, readingField}
+use Rattle.line.proofs.Answers.{of-of, through, required}
 use Rattle.line.proofs.Values.{number-written, number-read, reading-written, reading-read, lacks-number, lacks-reading}
 use Rattle.line.proofs.Joined.{lacks}
 use Rattle.line.proofs.Texts.{Parted, Follow, text-written, text-back, accepted}

@@ -1,17 +1,16 @@
 -- The definition of an event's line, field by field: what it gives once the fields before are read.
-use mathlib.Core.Path.{_≡_, refl, sym, _∙_, ap}
+use mathlib.Core.Path.{_≡_, refl}
 use mathlib.Core.List.{List, [], _∷_}
 use Prim.Native.Nat.{ℕ, _≤_, _<_}
 use native.Mathlib.Omega.{arith}
 use borrow.Author.Tests.{eq-eqb, ne-eqb, lt-ltb, le-ltb}
-use lib.Dec.{eqb, ltb}
-use lib.ListN.{length, getD}
+use lib.ListN.{length}
 use Rattle.line.specs.Fields.{LF, tab, indexOf, before, following, split}
-use Rattle.line.specs.Answers.{Answer, Of, No, _>>=_, _>>_, require}
+use Rattle.line.specs.Answers.{Of, No, _>>=_, _>>_, require}
 use Rattle.line.specs.Values.{numberField, readingField}
 use Rattle.line.specs.Texts.{lineOf}
 use Rattle.line.proofs.Fields.{next-field, last-field}
-use Rattle.cycle_text.specs.Types.{Reading, Event}
+use Rattle.cycle_text.specs.Types.{Reading}
 use Rattle.cycle_text.specs.Cycle.{eventOf}
 use Rattle.cycle_text.specs.Reads.{furtherReadings}
 

@@ -1,13 +1,13 @@
 -- The reader's turns: what the text gives by the line in hand, after the events above it; the slots; and the answers that the reader returns.
 use mathlib.Core.Path.{_≡_, refl, sym, _∙_, ap}
-use mathlib.Core.Bool.{Bool, true, false, cond}
+use mathlib.Core.Bool.{Bool, true, false}
 use mathlib.Core.List.{List, [], _∷_, _++_, append-assoc}
 use Prim.Native.Nat.{ℕ, suc, _+_, _-_, _≤_, _<_}
 use native.Mathlib.Omega.{arith}
 use native.Mathlib.Numerals.{add-one}
-use borrow.Author.Tests.{le-leb, lt-leb, lt-ltb, le-ltb, ltb-true, ltb-false}
+use borrow.Author.Tests.{le-leb, lt-leb, lt-ltb, le-ltb, ltb-true}
 use lib.Dec.{ltb}
-use lib.ListN.{length, take, drop, set, replicate, length-append, length-replicate, length-set}
+use lib.ListN.{length, take, set, replicate, length-append, length-replicate, length-set}
 use lib.Seq.{length-take-le, take-suc-set, set-append-seam}
 use Rattle.declare.specs.Events.{lastFrom, lastTime, emptySlot}
 use Rattle.declare.specs.Refusals.{numberOf}
@@ -17,8 +17,8 @@ use Rattle.line.specs.Answers.{Answer, Of, No, _>>=_, _>>_, require}
 use Rattle.line.specs.Texts.{Records, All, Stop, lineAfter, continued, linesOf, lineOf, recordsRead}
 use Rattle.line.proofs.Answers.{no-of}
 use Rattle.line.proofs.Texts.{line-then, text-step}
-use Rattle.cycle_text.specs.Types.{Event, Refusal, Outcome, Accepted, Refused, EventAnswer, Found, NoEvent, CycleRead}
-use Rattle.cycle_text.specs.Cycle.{eventOf, inOrder, eventAfter, cycleTextOf}
+use Rattle.cycle_text.specs.Types.{Event, Refusal, Accepted, EventAnswer, Found, NoEvent, CycleRead}
+use Rattle.cycle_text.specs.Cycle.{eventOf, inOrder, eventAfter}
 use Rattle.cycle_text.specs.Reads.{eventRead, recordsOf, eventsIn, padded, refusedRead}
 
 -- ---- a turn, by the line with which the text s begins

@@ -5,10 +5,10 @@ use Prim.Native.Nat.{ℕ}
 use lib.Dec.{eqb, leb, ltb}
 use lib.ListN.{length, getD}
 use Rattle.declare.specs.Events.{lastTime}
-use Rattle.line.specs.Answers.{Answer, Of, No, _>>=_, _>>_, require}
+use Rattle.line.specs.Answers.{Answer, Of, _>>=_, _>>_, require}
 use Rattle.line.specs.Values.{numberField, readingField}
 use Rattle.line.specs.Texts.{Records, textOf}
-use Rattle.cycle_text.specs.Types.{Reading, Event}
+use Rattle.cycle_text.specs.Types.{Event}
 
 -- "a cycle line: time, activity, four readings"
 unfoldable pub eventOf : List (List ℕ) → Answer Event

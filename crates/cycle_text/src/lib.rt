@@ -24,7 +24,7 @@ fn further_readings(part: &[u8], time: u32, activity: u8, reading1: Reading) -> 
     requires { ⌜ length (split tab (before LF (now part))) ≡ 3 ⌝ }
     ensures { λ r. ⌜ eventRead r ≡ furtherReadings time activity reading1 (split tab (before LF (now (part .entry)))) ⌝ }
 {
-    let second = line::reading_field(part, 9);
+    let second = line::reading_field(part, b'\t');
     let second_answer = second.answer;
     let reading2 = match second_answer {
         ReadingAnswer::Read(reading) => reading,
@@ -32,14 +32,14 @@ fn further_readings(part: &[u8], time: u32, activity: u8, reading1: Reading) -> 
     };
     let third_at = second.length + 1;
     let third_part = &part[third_at..];
-    let third = line::reading_field(third_part, 9);
+    let third = line::reading_field(third_part, b'\t');
     let third_answer = third.answer;
     let reading3 = match third_answer {
         ReadingAnswer::Read(reading) => reading,
         ReadingAnswer::NoReading(cause) => return EventAnswer::NoEvent(cause),
     };
     let fourth_at = third.length + 1;
-    let fourth = line::reading_field(&third_part[fourth_at..], 10);
+    let fourth = line::reading_field(&third_part[fourth_at..], b'\n');
     let fourth_answer = fourth.answer;
     match fourth_answer {
         ReadingAnswer::Read(reading4) => EventAnswer::Found(Event {
@@ -59,7 +59,7 @@ fn read_event(rest: &[u8]) -> EventAnswer
     requires { ⌜ length (split tab (before LF (now rest))) ≡ 6 ⌝ }
     ensures { λ r. ⌜ eventRead r ≡ eventOf (split tab (before LF (now (rest .entry)))) ⌝ }
 {
-    let first = line::number_field(rest, 9, 0, 4294967295);
+    let first = line::number_field(rest, b'\t', 0, 4294967295);
     let first_answer = first.answer;
     let time = match first_answer {
         NumberAnswer::Number(number) => number,
@@ -67,7 +67,7 @@ fn read_event(rest: &[u8]) -> EventAnswer
     };
     let second_at = first.length + 1;
     let second_part = &rest[second_at..];
-    let second = line::number_field(second_part, 9, 1, 64);
+    let second = line::number_field(second_part, b'\t', 1, 64);
     let second_answer = second.answer;
     let activity = match second_answer {
         NumberAnswer::Number(number) => number,
@@ -75,7 +75,7 @@ fn read_event(rest: &[u8]) -> EventAnswer
     };
     let third_at = second.length + 1;
     let third_part = &second_part[third_at..];
-    let third = line::reading_field(third_part, 9);
+    let third = line::reading_field(third_part, b'\t');
     let third_answer = third.answer;
     let reading1 = match third_answer {
         ReadingAnswer::Read(reading) => reading,
@@ -95,7 +95,7 @@ pub fn cycle_line(rest: &[u8]) -> CycleLine
     ensures { λ r. ⌜ eventRead (r .answer) ≡ lineOf eventOf (now (rest .entry)) ⌝ }
     ensures { λ r. ⌜ r .next ≡ indexOf LF (now (rest .entry)) + 1 ⌝ }
 {
-    let scan = line::scan_line(rest, 9);
+    let scan = line::scan_line(rest, b'\t');
     let end = scan.end;
     let next = end + 1;
     if rest.len() <= end {

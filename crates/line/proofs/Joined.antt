@@ -1,17 +1,16 @@
 -- Splitting and joining undo each other: joined parts that lack the separator split into the same parts, and parts of a split join to the same bytes.
-use mathlib.Core.Path.{_≡_, refl, sym, _∙_, ap}
-use mathlib.Core.Bool.{Bool, true, false, cond, _&&_, false≢true}
+use mathlib.Core.Path.{_≡_, refl, _∙_, ap}
+use mathlib.Core.Bool.{Bool, true, false, cond, false≢true}
 use mathlib.Core.List.{List, [], _∷_, _++_, append-nil}
-use Prim.Native.Nat.{ℕ, suc, _≤_, _<_}
+use Prim.Native.Nat.{ℕ, _<_}
 use native.Mathlib.Omega.{arith}
 use borrow.Author.Tests.{eq-eqb, ne-eqb, eqb-true}
 use lib.Dec.{eqb}
-use lib.ListN.{length}
 use Rattle.declare.specs.Lists.{all}
 use Rattle.declare.proofs.Booleans.{and-left, and-right}
 use Rattle.number.specs.Number.{digit, digits}
 use Rattle.number.proofs.Digits.{digit-low}
-use Rattle.line.specs.Fields.{indexOf, onto, split, eachAfter, joined}
+use Rattle.line.specs.Fields.{onto, split, eachAfter, joined}
 use Rattle.line.proofs.Fields.{parts}
 
 -- ---- bytes that do not stand in a list

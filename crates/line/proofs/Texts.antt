@@ -1,19 +1,19 @@
 -- Laws of a text's records, for every kind of record: a text by its first line; a written text read back, and an accepted text written again;
 -- and what holds of all records of an accepted text, because it holds after each line.
 use mathlib.Core.Path.{_≡_, refl, sym, _∙_, ap}
-use mathlib.Core.Bool.{Bool, true, false, cond}
+use mathlib.Core.Bool.{Bool, true, false}
 use mathlib.Core.List.{List, [], _∷_, _++_, append-nil, append-assoc}
 use Prim.Native.Nat.{ℕ, _<_}
 use native.Mathlib.Omega.{arith}
 use borrow.Author.Tests.{ltb-false}
 use lib.Dec.{ltb}
-use lib.ListN.{length, take}
+use lib.ListN.{length}
 use lib.Seq.{take-all}
 use Rattle.declare.specs.Lists.{all}
 use Rattle.number.specs.Number.{none}
 use Rattle.line.specs.Fields.{LF, tab, indexOf, before, following, split, eachAfter, joined}
 use Rattle.line.specs.Answers.{Answer, Of, No, _>>=_}
-use Rattle.line.specs.Texts.{Records, All, Stop, lineAfter, continued, linesOf, textOf, lineOf, writtenLine, writtenText}
+use Rattle.line.specs.Texts.{All, Stop, lineAfter, continued, linesOf, textOf, lineOf, writtenLine, writtenText}
 use Rattle.line.proofs.Fields.{before-take, parts}
 use Rattle.line.proofs.Joined.{lacks, split-before, split-joined, lacks-joined, joined-split}
 

@@ -1,6 +1,6 @@
 -- A field that is written reads back as its value, and a value that was read is written as the same field.
 use mathlib.Core.Path.{_≡_, refl, sym, _∙_, ap}
-use mathlib.Core.Bool.{Bool, true, false, cond, _&&_, false≢true}
+use mathlib.Core.Bool.{Bool, true, false, _&&_, false≢true}
 use mathlib.Core.List.{List, [], _∷_}
 use Prim.Native.Nat.{ℕ, suc, _≤_, _<_}
 use native.Mathlib.Omega.{arith}
@@ -14,10 +14,10 @@ use Rattle.declare.specs.Comparisons.{operandOf}
 use Rattle.declare.proofs.Booleans.{and-left, and-right}
 use Rattle.number.specs.Number.{none, dash, naturalOf, inSignedRange, integerOf}
 use Rattle.number.specs.Written.{digitsOf, integerText}
-use Rattle.number.proofs.Written.{written-digits, read-natural, read-integer, integer-not-dash, NaturalRead, natural-read, IntegerRead, integer-read}
+use Rattle.number.proofs.Written.{written-digits, read-natural, read-integer, integer-not-dash, NaturalRead, natural-read, integer-read}
 use Rattle.line.specs.Types.{Reading, Blank, Value, Refusal, Fault, NaturalAnswer, Natural, NoNatural, IntegerAnswer, Integer, NoInteger, NumberAnswer, Number, NoNumber, ReadingAnswer, Read, NoReading}
 use Rattle.line.specs.Answers.{Answer, Of, No}
-use Rattle.line.specs.Values.{faultNumber, naturalAnswer, numberField, integerAnswer, readingField, readingText, numberRead, readingRead}
+use Rattle.line.specs.Values.{naturalAnswer, numberField, integerAnswer, readingField, readingText, numberRead, readingRead}
 use Rattle.line.proofs.Answers.{no-of, of-of}
 use Rattle.line.proofs.Joined.{lacks, lacks-digits}
 

@@ -2,29 +2,89 @@
 use mathlib.Core.Path.{_≡_, refl}
 use mathlib.Core.List.{List, [], _∷_, map}
 use Prim.Native.Nat.{ℕ}
-use Prim.Native.String.{String}
+use lib.Dec.{eqb}
 use lib.IntN.{pos, negsuc}
+use lib.ListN.{length, getD}
 use Rattle.number.specs.Number.{digit, digits, none, zeroAlone, positive, negative, naturalForm, integerForm, dash, valueFrom, valueOf, integerValue, inRange, naturalOf, inSignedRange, integerOf}
-use Rattle.number.proofs.Quoted.{bytes}
+use Rattle.number.proofs.Quoted.{bytes, Case, _gives_, Checked}
 use Rattle.line.specs.Types.{Reading, Blank, Value}
-use Rattle.line.specs.Fields.{LF, tab, indexOf, before, countOf, onto, split, eachAfter, joined}
-use Rattle.line.specs.Answers.{Answer, Of, No}
+use Rattle.line.specs.Fields.{LF, tab, before, onto, split, eachAfter, joined}
+use Rattle.line.specs.Answers.{Answer, Of, No, _>>_, require}
 use Rattle.line.specs.Values.{faultNumber, naturalAnswer, numberField, integerAnswer, readingField}
+use Rattle.line.specs.Texts.{Records, All, Stop, lineAfter, continued, linesOf, textOf, writtenLine, writtenText}
 
 -- no bytes are one empty part; a separator at the end leaves an empty part behind it
-pub split-parts : map (λ s. split tab (bytes s)) ("" ∷ "a" ∷ "a\tbc" ∷ "a\t" ∷ "\t\t" ∷ []) ≡ map (map bytes) (("" ∷ []) ∷ ("a" ∷ []) ∷ ("a" ∷ "bc" ∷ []) ∷ ("a" ∷ "" ∷ []) ∷ ("" ∷ "" ∷ "" ∷ []) ∷ [])
-unfolding split onto
-split-parts = refl
+abbrev parted : List (Case (List (List ℕ)))
+parted =
+    "" gives map bytes ("" ∷ [])
+    ∷ "a" gives map bytes ("a" ∷ [])
+    ∷ "a\tbc" gives map bytes ("a" ∷ "bc" ∷ [])
+    ∷ "a\t" gives map bytes ("a" ∷ "" ∷ [])
+    ∷ "\t\t" gives map bytes ("" ∷ "" ∷ "" ∷ [])
+    ∷ []
 
-pub first-line : map (λ s. before LF (bytes s)) ("" ∷ "ab" ∷ "ab\ncd\n" ∷ "\nab" ∷ []) ≡ map bytes ("" ∷ "ab" ∷ "ab" ∷ "" ∷ [])
-unfolding before
-first-line = refl
+abbrev lines : List (Case (List ℕ))
+lines =
+    "" gives []
+    ∷ "ab" gives bytes "ab"
+    ∷ "ab\ncd\n" gives bytes "ab"
+    ∷ "\nab" gives []
+    ∷ []
 
-pub numbers : map (λ s. numberField 1 64 (bytes s)) ("1" ∷ "64" ∷ "0" ∷ "65" ∷ "-5" ∷ "-" ∷ "" ∷ "064" ∷ []) ≡ Of 1 ∷ Of 64 ∷ No 3 ∷ No 3 ∷ No 2 ∷ No 2 ∷ No 2 ∷ No 2 ∷ []
-unfolding digit digits none zeroAlone positive naturalForm valueFrom valueOf inRange naturalOf faultNumber naturalAnswer numberField
-numbers = refl
+abbrev activities : List (Case (Answer ℕ))
+activities =
+    "1" gives Of 1
+    ∷ "64" gives Of 64
+    ∷ "0" gives No 3
+    ∷ "65" gives No 3
+    ∷ "-5" gives No 2
+    ∷ "-" gives No 2
+    ∷ "" gives No 2
+    ∷ "064" gives No 2
+    ∷ []
 
 -- blank is not 0
-pub readings : map (λ s. readingField (bytes s)) ("-" ∷ "0" ∷ "-7" ∷ "2147483647" ∷ "-2147483648" ∷ "2147483648" ∷ "-2147483649" ∷ "-0" ∷ "--" ∷ "" ∷ "7\r" ∷ []) ≡ Of Blank ∷ Of (Value (pos 0)) ∷ Of (Value (negsuc 6)) ∷ Of (Value (pos 2147483647)) ∷ Of (Value (negsuc 2147483647)) ∷ No 3 ∷ No 3 ∷ No 2 ∷ No 2 ∷ No 2 ∷ No 2 ∷ []
-unfolding digit digits none zeroAlone positive negative naturalForm integerForm dash valueFrom valueOf integerValue inSignedRange integerOf faultNumber integerAnswer readingField
-readings = refl
+abbrev readings : List (Case (Answer Reading))
+readings =
+    "-" gives Of Blank
+    ∷ "0" gives Of (Value (pos 0))
+    ∷ "-7" gives Of (Value (negsuc 6))
+    ∷ "2147483647" gives Of (Value (pos 2147483647))
+    ∷ "-2147483648" gives Of (Value (negsuc 2147483647))
+    ∷ "2147483648" gives No 3
+    ∷ "-2147483649" gives No 3
+    ∷ "-0" gives No 2
+    ∷ "--" gives No 2
+    ∷ "" gives No 2
+    ∷ "7\r" gives No 2
+    ∷ []
+
+-- records of one field each
+abbrev field : List (List ℕ) → List (List ℕ) → Answer (List ℕ)
+field above fields = do
+  require (eqb (length fields) 1) 1
+  Of (getD fields 0 [])
+
+-- the last line that LF does not end is 12, whatever it holds; lines count from 1
+abbrev texts : List (Case (Records (List ℕ)))
+texts =
+    "" gives All []
+    ∷ "a\n" gives All (bytes "a" ∷ [])
+    ∷ "a\n\nbc\n" gives All (bytes "a" ∷ [] ∷ bytes "bc" ∷ [])
+    ∷ "a" gives Stop 12 1
+    ∷ "a\n\t" gives Stop 12 2
+    ∷ "\t\n" gives Stop 1 1
+    ∷ "a\n\t\nb" gives Stop 1 2
+    ∷ []
+
+pub record Vectors : Type 0 where
+  pub of-parts : Checked (split tab) parted
+  pub of-lines : Checked (before LF) lines
+  pub of-activities : Checked (numberField 1 64) activities
+  pub of-readings : Checked readingField readings
+  pub of-texts : Checked (textOf field) texts
+  pub of-written : writtenText (λ (p : List ℕ). p ∷ p ∷ []) (bytes "a" ∷ bytes "bc" ∷ []) ≡ bytes "a\ta\nbc\tbc\n"
+
+pub vectors : Vectors
+unfolding digit digits none zeroAlone positive negative naturalForm integerForm dash valueFrom valueOf integerValue inRange naturalOf inSignedRange integerOf before onto split eachAfter joined _>>_ require faultNumber naturalAnswer numberField integerAnswer readingField lineAfter continued linesOf textOf writtenLine writtenText
+vectors = record { of-parts = refl; of-lines = refl; of-activities = refl; of-readings = refl; of-texts = refl; of-written = refl }

@@ -31,7 +31,7 @@ pub fn scan_line(text: &[u8], separator: u8) -> LineScan
     let mut separators: usize = 0;
     let mut i = 0;
     while i < text.len() {
-        if text[i] == 10 {
+        if text[i] == b'\n' {
             return LineScan { end: i, separators };
         }
         if text[i] == separator {

@@ -10,7 +10,7 @@ use borrow.Author.Tests.{ltb-true, ltb-false, lt-leb, eqb-true}
 use lib.Dec.{leb, ltb, eqb}
 use lib.IntN.{pos, negℤ}
 use Rattle.number.specs.Types.{Empty, Minus, Zero, Digits, Malformed, Form, Range, Natural, NoNatural, NoInteger}
-use Rattle.number.specs.Number.{digit, digits, none, positive, naturalForm, integerForm, dash, valueFrom, valueOf, integerValue, inRange, naturalOf, inSignedRange, integerOf}
+use Rattle.number.specs.Number.{digit, digits, none, positive, dash, valueFrom, valueOf, integerValue, inRange, naturalOf, inSignedRange, integerOf}
 use Rattle.number.specs.Reader.{bound, extended, firstDigit, pushed, after, naturalIn, integerIn, dashIn, Exact}
 use Rattle.number.proofs.Digits.{natural-empty, integer-empty, natural-zero, natural-digit, natural-dash, positive-zero, positive-digit, integer-dash, integer-natural}
 use Rattle.number.proofs.Signed.{signed-low, signed-high}

@@ -1,12 +1,12 @@
 -- Laws of digits and of the number form, by the first byte; what a reader after further digits keeps of their value.
-use mathlib.Core.Path.{_≡_, refl, sym, _∙_, ap}
-use mathlib.Core.Bool.{Bool, true, false, not, cond, _&&_, _||_, false≢true}
+use mathlib.Core.Path.{_≡_, refl}
+use mathlib.Core.Bool.{Bool, true, false, _&&_, _||_, false≢true}
 use mathlib.Core.List.{List, [], _∷_}
-use Prim.Native.Nat.{ℕ, zero, suc, _+_, _-_, _*_, _≤_, _<_, min}
+use Prim.Native.Nat.{ℕ, _+_, _≤_, _<_}
 use native.Mathlib.Omega.{arith}
-use borrow.Author.Tests.{leb-true, le-leb, ltb-true, ltb-false, eqb-true, ne-eqb}
-use lib.Dec.{leb, ltb, eqb}
-use Rattle.number.specs.Number.{digit, digits, none, zeroAlone, positive, negative, naturalForm, integerForm, valueFrom, valueOf}
+use borrow.Author.Tests.{leb-true, le-leb, eqb-true}
+use lib.Dec.{leb, eqb}
+use Rattle.number.specs.Number.{digit, digits, none, zeroAlone, positive, negative, naturalForm, integerForm}
 
 pub and-left : (a b : Bool) → (a && b) ≡ true → a ≡ true
 and-left true b h = refl

@@ -1,6 +1,6 @@
 -- Writing and reading undo each other: what is written reads back as the number, and what was read is written as the same bytes.
 use mathlib.Core.Path.{_≡_, refl, sym, _∙_, ap}
-use mathlib.Core.Bool.{Bool, true, false, not, cond, _&&_, false≢true}
+use mathlib.Core.Bool.{Bool, true, false, _&&_, false≢true}
 use mathlib.Core.List.{List, [], _∷_, _++_, append-nil, append-assoc}
 use Prim.Native.Nat.{ℕ, zero, suc, _+_, _-_, _*_, _/_, _%_, _≤_, _<_}
 use native.Mathlib.Omega.{arith}
@@ -8,8 +8,8 @@ use borrow.Author.Tests.{leb-true, le-leb, ltb-true, ltb-false, lt-ltb, le-ltb, 
 use lib.Dec.{leb, ltb, eqb}
 use lib.IntN.{ℤ, pos, negsuc, negℤ}
 use lib.Signed.{leZ}
-use Rattle.number.specs.Types.{Fault, Form, Range, Natural, NoNatural, Integer, NoInteger}
-use Rattle.number.specs.Number.{digit, digits, none, zeroAlone, positive, naturalForm, integerForm, dash, valueFrom, valueOf, integerValue, inRange, naturalOf, inSignedRange, integerOf}
+use Rattle.number.specs.Types.{Fault, Natural, NoNatural, Integer, NoInteger}
+use Rattle.number.specs.Number.{digit, digits, none, positive, naturalForm, integerForm, dash, valueFrom, valueOf, integerValue, inRange, naturalOf, inSignedRange, integerOf}
 use Rattle.number.specs.Written.{digitsIn, digitsOf, integerText}
 use Rattle.number.proofs.Digits.{and-left, and-right, digit-low, digit-high, is-digit, natural-empty, integer-empty, natural-zero, natural-digit, positive-zero, positive-digit, natural-dash, integer-dash, integer-natural}
 

@@ -33,7 +33,7 @@ pub enum IntegerAnswer {
 fn is_digit(byte: u8) -> bool
     ensures { λ r. ⌜ r ≡ digit byte ⌝ }
 {
-    48 <= byte && byte <= 57
+    b'0' <= byte && byte <= b'9'
 }
 
 // One digit more. A value from 4294967296 on is above every range and stays as it is, so that none overflows.
@@ -51,10 +51,10 @@ fn extend(value: u64, digit: u64) -> u64
 fn first_digit(negative: bool, byte: u8) -> Reader
     ensures { λ r. ⌜ r ≡ firstDigit negative byte ⌝ }
 {
-    if byte == 48 {
+    if byte == b'0' {
         Reader::Malformed
     } else if is_digit(byte) {
-        let value = (byte - 48) as u64;
+        let value = (byte - b'0') as u64;
         Reader::Digits { negative, value }
     } else {
         Reader::Malformed
@@ -65,7 +65,7 @@ fn next_digit(negative: bool, value: u64, byte: u8) -> Reader
     ensures { λ r. ⌜ r ≡ pushed (Reader.Digits negative value) byte ⌝ }
 {
     if is_digit(byte) {
-        let longer = extend(value, (byte - 48) as u64);
+        let longer = extend(value, (byte - b'0') as u64);
         Reader::Digits {
             negative,
             value: longer,
@@ -120,9 +120,9 @@ impl Reader {
     {
         match self {
             Reader::Empty => {
-                if byte == 45 {
+                if byte == b'-' {
                     Reader::Minus
-                } else if byte == 48 {
+                } else if byte == b'0' {
                     Reader::Zero
                 } else {
                     first_digit(false, byte)

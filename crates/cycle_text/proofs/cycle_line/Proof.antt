@@ -1,11 +1,11 @@
 -- `cycle_text::cycle_line`: the scan finds the line's end and counts its tabs, one fewer than its fields; the checks are made in the order of the definition.
 use mathlib.Core.Path.{_≡_, sym, _∙_, ap}
 use mathlib.Core.List.{List}
-use Prim.Native.Nat.{ℕ, suc, _+_, _<_}
+use Prim.Native.Nat.{ℕ, suc, _+_}
 use native.Mathlib.Omega.{arith}
 use lib.ListN.{length}
 use Rattle.declare.specs.Refusals.{numberOf}
-use Rattle.line.specs.Fields.{LF, tab, indexOf, before, countOf}
+use Rattle.line.specs.Fields.{LF, tab, indexOf, before}
 use Rattle.line.specs.Scans.{lineScan}
 use Rattle.line.proofs.Fields.{index-le, count-parts}
 use Rattle.cycle_text.specs.Types.{LineScan}

@@ -1,11 +1,11 @@
 -- `cycle_text::read_cycle`: at each turn the whole text gives what the lines left give after the events held.
 -- The line in hand refuses the text, or its event is held and what follows is left.
 use mathlib.Core.Path.{_≡_, refl, sym, _∙_, ap}
-use mathlib.Core.List.{List, _∷_, []}
+use mathlib.Core.List.{List}
 use Prim.Native.Nat.{ℕ, _+_, _-_, _≤_, _<_}
 use native.Mathlib.Omega.{arith}
 use borrow.Author.Needs.{needs}
-use lib.ListN.{length, take, drop, replicate, length-drop, drop-of-length-le}
+use lib.ListN.{length, take, drop, length-drop, drop-of-length-le}
 use lib.Seq.{drop-drop}
 use Rattle.declare.specs.Events.{lastFrom, lastTime}
 use Rattle.declare.specs.Refusals.{numberOf}

@@ -11,7 +11,7 @@ use Rattle.line.specs.Values.{numberField, readingField, numberRead, readingRea
 use Rattle.line.proofs.Fields.{Passed, pass-field}
 use Rattle.line.proofs.Values.{number-found, number-refused, reading-found, reading-refused, number-read}
 use Rattle.cycle_text.specs.Reads.{eventRead}
-use Rattle.cycle_text.proofs.Steps.{fieldsIn, next, head-of}
+use Rattle.cycle_text.proofs.Steps.{next, head-of}
 use borrow.Author.Needs.{needs}
 use Rattle.cycle_text.proofs.read_event.Statement.{statement}
 use Rattle.cycle_text.proofs.read_event.Tie as tie

@@ -1,5 +1,5 @@
 -- `line::scan_field`: at each turn the reader, handed what is left of the field, ends as one that is handed the whole field.
-use Prim.Native.Nat.{ℕ, _+_, _-_, _≤_}
+use Prim.Native.Nat.{_+_, _-_, _≤_}
 use mathlib.Core.Path.{_≡_}
 use native.Mathlib.Omega.{arith}
 use lib.ListN.{length, drop, drop-of-length-le}

@@ -1,0 +1,73 @@
+// The library's calls.
+use crate::answer;
+use crate::command;
+use declare::Table;
+use run::Answer;
+use run::Run;
+use run::StandingAnswer;
+use run::Step;
+use run::TotalsAnswer;
+
+fn said(a: Answer) {
+    match a {
+        Answer::Done => answer::accepted(),
+        Answer::Refused(refusal) => answer::refused(refusal, 0, 0),
+    }
+}
+
+fn is_done(a: Answer) -> bool {
+    match a {
+        Answer::Done => true,
+        Answer::Refused(_) => false,
+    }
+}
+
+pub fn start(run: Run, table: Table) -> Run {
+    let step = Run::start(table);
+    let a = step.answer;
+    said(a);
+    if is_done(a) {
+        return step.run;
+    }
+    run
+}
+
+fn stepped(step: Step) -> Run {
+    let a = step.answer;
+    said(a);
+    step.run
+}
+
+fn ask_standing(run: Run, command: [u8; 32]) {
+    let rule = command::index(command::low_half(command));
+    let position = command::index(command::high_half(command));
+    let a = run.standing(rule, position);
+    match a {
+        StandingAnswer::Is(s) => answer::standing(s),
+        StandingAnswer::Refused(refusal) => answer::refused(refusal, 0, 0),
+    }
+}
+
+fn ask_totals(run: Run, command: [u8; 32]) {
+    let a = run.totals(command::number(command));
+    match a {
+        TotalsAnswer::Are(t) => answer::totals(t),
+        TotalsAnswer::Refused(refusal) => answer::refused(refusal, 0, 0),
+    }
+}
+
+pub fn call(run: Run, command: [u8; 32]) -> Run {
+    let letter = command[0];
+    match letter {
+        101 => stepped(run.take(command::event(command))),
+        120 => stepped(run.close()),
+        103 => {
+            ask_standing(run, command);
+            run
+        },
+        _ => {
+            ask_totals(run, command);
+            run
+        },
+    }
+}

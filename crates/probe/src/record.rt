@@ -1,0 +1,72 @@
+// Single fields of the run.
+use crate::command;
+use crate::table;
+use declare::Standing;
+use declare::Table;
+use judge::Cell;
+use run::Run;
+
+pub fn empty() -> Run {
+    let step = Run::start(table::empty());
+    step.run
+}
+
+pub fn with_table(run: Run, table: Table) -> Run {
+    let mut next = run;
+    next.table = table;
+    next
+}
+
+fn target(x: u32) -> u16 {
+    (x % 65536) as u16
+}
+
+fn standing(kind: u8, target: u16) -> Standing {
+    match kind {
+        0 => Standing::Idle,
+        1 => Standing::Open,
+        2 => Standing::Fulfilled(target),
+        _ => Standing::Violated(target),
+    }
+}
+
+fn with_cell(run: Run, command: [u8; 32]) -> Run {
+    let at = command::index(command::low_half(command));
+    if 4096 <= at {
+        return run;
+    }
+    let cell = Cell {
+        standing: standing(command[1], target(command::high_half(command))),
+    };
+    let mut next = run;
+    next.cells[at] = cell;
+    next
+}
+
+fn with_event(run: Run, command: [u8; 32]) -> Run {
+    let at = command::index(command::low_half(command));
+    if 256 <= at {
+        return run;
+    }
+    let event = command::event(command);
+    let mut next = run;
+    next.events[at] = event;
+    next
+}
+
+pub fn changed(run: Run, command: [u8; 32]) -> Run {
+    let letter = command[0];
+    let mut next = run;
+    match letter {
+        67 => {
+            next.count = command::number(command);
+            next
+        },
+        70 => {
+            next.closed = command[1] != 0;
+            next
+        },
+        69 => with_event(run, command),
+        _ => with_cell(run, command),
+    }
+}
