@@ -1,0 +1,2 @@
+-- The laws of the tally.
+pub mod Sums

@@ -1,0 +1,46 @@
+-- By the answer of the totals, and whether the run is closed.
+use borrow.Author.Tests.{not-true, not-false}
+use Rattle.tally.specs.Sums.{countedBy}
+use borrow.Author.Needs.{needs}
+use Rattle.tally.proofs.counted_by.Statement.{statement}
+use Rattle.tally.proofs.counted_by.Tie as tie
+
+enum-known-answer : tie.Need-enum-known-answer
+enum-known-answer c = search needs
+
+not-counted-requires : tie.Need-not-counted-requires
+not-counted-requires c κs = search needs
+
+returns : tie.Need-returns
+unfolding countedBy
+returns c = rw (c .before .before .before .answer .given .1, not-true (c .before .before .before .before .before .args .closed) (c .before .if1 .taken), c .not-counted .ensures)
+
+enum-known-answer-2 : tie.Need-enum-known-answer-2
+enum-known-answer-2 c = search needs
+
+answer-for-requires : tie.Need-answer-for-requires
+answer-for-requires c κs = search needs
+
+not-counted-requires-2 : tie.Need-not-counted-requires-2
+not-counted-requires-2 c κs = search needs
+
+returns-2 : tie.Need-returns-2
+unfolding countedBy
+returns-2 c = rw (c .before .before .answer .given .1, not-false (c .before .before .before .before .args .closed) (c .if1 .left))
+
+returns-3 : tie.Need-returns-3
+unfolding countedBy
+returns-3 c = rw (c .before .before .before .answer2 .given .1, c .not-counted2 .ensures, c .before .answer-for .ensures)
+
+pub counted-by-spec : {M : Type 1} → statement M
+counted-by-spec =
+    tie.close
+    (tie.spec
+    enum-known-answer
+    not-counted-requires
+    returns
+    enum-known-answer-2
+    answer-for-requires
+    not-counted-requires-2
+    returns-2
+    returns-3)
