@@ -4,7 +4,7 @@ use mathlib.Core.List.{List, [], _∷_, _++_}
 use Prim.Native.Nat.{ℕ, zero, suc}
 use lib.IntN.{pos, negsuc}
 use lib.ListN.{replicate}
-use Rattle.declare.specs.Events.{lastFrom, lastTime}
+use Rattle.declare.specs.Events.{lastFrom, lastTime, emptySlot}
 use Rattle.number.specs.Number.{digit, digits, none, zeroAlone, positive, negative, naturalForm, integerForm, dash, valueFrom, valueOf, integerValue, inRange, naturalOf, inSignedRange, integerOf}
 use Rattle.number.specs.Written.{digitsIn, digitsOf, integerText}
 use Rattle.number.proofs.Quoted.{bytes, Case, _gives_, Checked}
@@ -14,6 +14,7 @@ use Rattle.line.specs.Values.{faultNumber, naturalAnswer, numberField, integerA
 use Rattle.line.specs.Texts.{Records, All, Stop, lineAfter, continued, linesOf, textOf, writtenLine, writtenText}
 use Rattle.cycle_text.specs.Types.{Reading, Blank, Value, Event}
 use Rattle.cycle_text.specs.Cycle.{eventOf, inOrder, eventAfter, cycleTextOf}
+use Rattle.cycle_text.specs.Reads.{padded}
 use Rattle.cycle_text.specs.Written.{eventFields, eventsText}
 
 abbrev event : ℕ → ℕ → Reading → Event
@@ -61,6 +62,7 @@ refused =
     ∷ "\t1\t-\t-\t-\t-\n" gives Stop 2 1
     ∷ "-\t1\t-\t-\t-\t-\n" gives Stop 2 1
     ∷ "0\t-\t-\t-\t-\t-\n" gives Stop 2 1
+    ∷ "0\t-5\t-\t-\t-\t-\n" gives Stop 2 1
     ∷ "0\t1\t-0\t-\t-\t-\n" gives Stop 2 1
     ∷ "0\t1\t\t-\t-\t-\n" gives Stop 2 1
     ∷ "0\t1\t-\t-\t-\t-\n1\t1\t--1\t-\t-\t-\n" gives Stop 2 2
@@ -97,6 +99,8 @@ ordered =
     ∷ "5\t1\t-\t-\t-\t-\n4\t1\tx\t-\t-\t-\n" gives Stop 2 2
     ∷ "5\t1\t-\t-\t-\t-\n4\t65\t-\t-\t-\t-\n" gives Stop 3 2
     ∷ "5\t1\t-\t-\t-\t-\n4\t1\t-\t-\t-\t-" gives Stop 12 2
+    ∷ "999999999999999999999999999999999999999999999999999999999999\n" gives Stop 1 1
+    ∷ "999999999999999999999999999999999999999999999999999999999999" gives Stop 12 1
     -- the first line that is refused
     ∷ "x\n0" gives Stop 1 1
     ∷ "0\tx\t-\t-\t-\t-\n\n" gives Stop 2 1
@@ -125,9 +129,11 @@ pub record Vectors : Type 0 where
   pub of-refused : Checked cycleTextOf refused
   pub of-ordered : Checked cycleTextOf ordered
   pub of-full : Checked (λ s. cycleTextOf (times 256 (bytes "5\t1\t-\t-\t-\t-\n") ++ s)) full
+  -- 256 slots, each that is not filled at time 0, activity 1 and blank readings
+  pub of-slots : padded (event 5 2 Blank ∷ []) ≡ event 5 2 Blank ∷ replicate 255 (event 0 1 Blank)
 
 pub vectors : Vectors
-unfolding lastFrom lastTime digit digits none zeroAlone positive negative naturalForm integerForm dash valueFrom valueOf integerValue inRange naturalOf inSignedRange integerOf digitsIn digitsOf integerText onto split eachAfter joined _>>=_ _>>_ require faultNumber naturalAnswer numberField integerAnswer readingField readingText lineAfter continued linesOf textOf writtenLine writtenText eventOf inOrder eventAfter cycleTextOf eventFields eventsText
+unfolding lastFrom lastTime digit digits none zeroAlone positive negative naturalForm integerForm dash valueFrom valueOf integerValue inRange naturalOf inSignedRange integerOf digitsIn digitsOf integerText onto split eachAfter joined _>>=_ _>>_ require faultNumber naturalAnswer numberField integerAnswer readingField readingText lineAfter continued linesOf textOf writtenLine writtenText eventOf inOrder eventAfter cycleTextOf padded emptySlot eventFields eventsText
 vectors =
     record {
       listing-read = refl;
@@ -136,4 +142,5 @@ vectors =
       of-refused = refl;
       of-ordered = refl;
       of-full = refl;
+      of-slots = refl;
     }

@@ -1,5 +1,5 @@
 -- What a cycle text holds, by document 01: its lines, their fields, the fields' values, and the order of the checks.
--- "In a line: 12, 1, then field by field 2, 3, then 7, then 8." The line's 12 is in `textOf`.
+-- Document 01's order in a cycle line is 12, 1, then field by field 2, 3, then 7, then 8; `textOf` has 12.
 use mathlib.Core.List.{List, []}
 use Prim.Native.Nat.{ℕ}
 use lib.Dec.{eqb, leb, ltb}

@@ -54,7 +54,7 @@ fn further_readings(part: &[u8], time: u32, activity: u8, reading1: Reading) -> 
     }
 }
 
-// The six fields of the line with which `rest` begins.
+// The six fields of the first line.
 fn read_event(rest: &[u8]) -> EventAnswer
     requires { ⌜ length (split tab (before LF (now rest))) ≡ 6 ⌝ }
     ensures { λ r. ⌜ eventRead r ≡ eventOf (split tab (before LF (now (rest .entry)))) ⌝ }
@@ -90,7 +90,7 @@ pub struct CycleLine {
     pub next: usize,
 }
 
-// The line with which `rest` begins, and where the next one begins.
+// The first line, and where the next one begins.
 pub fn cycle_line(rest: &[u8]) -> CycleLine
     ensures { λ r. ⌜ eventRead (r .answer) ≡ lineOf eventOf (now (rest .entry)) ⌝ }
     ensures { λ r. ⌜ r .next ≡ indexOf LF (now (rest .entry)) + 1 ⌝ }

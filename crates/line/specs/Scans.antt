@@ -8,11 +8,11 @@ use Rattle.line.specs.Fields.{LF, indexOf, before, countOf}
 use Rattle.line.specs.Answers.{Answer, Of}
 use Rattle.line.specs.Values.{integerAnswer}
 
--- where the line ends with which the text begins, and how many separators it has
+-- where the first line of the text ends, and how many separators it has
 unfoldable pub lineScan : ℕ → List ℕ → LineScan
 lineScan separator text = record { end = indexOf LF text; separators = countOf separator (before LF text) }
 
--- the number reader over the field with which the part begins, and the field's length
+-- the number reader after the first field of the part, and the field's length
 unfoldable pub fieldScan : ℕ → List ℕ → FieldScan
 fieldScan separator part = record { reader = after Empty (before separator part); length = indexOf separator part }
 

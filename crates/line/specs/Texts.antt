@@ -34,7 +34,7 @@ linesOf recordOf above (line ∷ next ∷ more) =
 unfoldable pub textOf : {A : Type 0} → (List A → List (List ℕ) → Answer A) → List ℕ → Records A
 textOf recordOf text = linesOf recordOf [] (split LF text)
 
--- the line with which a text begins
+-- the first line of a text
 unfoldable pub lineOf : {A : Type 0} → (List (List ℕ) → Answer A) → List ℕ → Answer A
 lineOf holds text = cond (ltb (indexOf LF text) (length text)) (holds (split tab (before LF text))) (No 12)
 
