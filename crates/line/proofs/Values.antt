@@ -69,7 +69,7 @@ unfolding readingField readingText dash none integerAnswer
 reading-written Blank h = refl
 reading-written (Value z) h = rw (integer-not-dash z, read-integer z, in-range z h)
 
-dash-text : (field : List ℕ) → dash field ≡ true → 45 ∷ [] ≡ field
+pub dash-text : (field : List ℕ) → dash field ≡ true → 45 ∷ [] ≡ field
 unfolding dash none
 dash-text [] h = absurd (false≢true h)
 dash-text (b ∷ []) h = ap (λ (k : ℕ). k ∷ []) (sym (eqb-true b 45 (and-left (eqb b 45) true h)))

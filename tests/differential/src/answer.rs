@@ -2,14 +2,21 @@
 
 use crate::bytes::{Bytes, Wrong};
 use crate::command::kind_and_target;
-use evaluator::slots::{COMPARISON_SLOTS, EVENT_SLOTS, RULE_SLOTS};
+use evaluator::slots::{EVENT_SLOTS, RULE_SLOTS};
 use evaluator::{Comparison, ConditionSlot, Event, Operator, Record, Reference, Refusal};
 use evaluator::{Rule, RuleSlot, Standing, TableRecord, Tally, Text, Totals};
 
 pub const ANSWER_BYTES: usize = 16;
 pub const TALLY_BYTES: usize = 16;
 pub const STANDING_BYTES: usize = 4;
-pub const RUN_BYTES: usize = 23_832;
+/// Two conditions of a count with three bytes 0 and four comparisons of 8 bytes,
+/// after 12 bytes for the rest of the rule.
+const RULE_BYTES: usize = 12 + 2 * (4 + 4 * 8);
+const EVENT_BYTES: usize = 24;
+const EVENTS_AT: usize = 24 + RULE_SLOTS * RULE_BYTES;
+const STANDINGS_AT: usize = EVENTS_AT + EVENT_SLOTS * EVENT_BYTES;
+/// The dump `D`: a head of 24 bytes, rule slots, event slots, standings.
+pub const RUN_BYTES: usize = STANDINGS_AT + RULE_SLOTS * EVENT_SLOTS * STANDING_BYTES;
 
 /// The answer of a call, all of its fields. What a call does not name is 0.
 #[derive(Debug, Clone, Copy, PartialEq, Eq, Default)]
@@ -202,8 +209,8 @@ fn condition_of(read: &mut Bytes) -> Result<ConditionSlot, Wrong> {
     let count = read.u8()?;
     read.zeros(3)?;
     let mut comparisons = ConditionSlot::of(&[]).comparisons;
-    for place in 0..COMPARISON_SLOTS {
-        comparisons[place] = comparison_of(read)?;
+    for comparison in &mut comparisons {
+        *comparison = comparison_of(read)?;
     }
     Ok(ConditionSlot { count, comparisons })
 }
@@ -321,7 +328,7 @@ mod tests {
         bytes[8] = 3;
         bytes[16] = 2;
         for slot in 0..256 {
-            bytes[1304 + 24 * slot + 5] = 15;
+            bytes[1368 + 24 * slot + 5] = 15;
         }
         bytes
     }
@@ -331,13 +338,19 @@ mod tests {
     }
 
     #[test]
+    fn the_parts_of_a_run_have_their_places() {
+        assert_eq!((RULE_BYTES, EVENTS_AT), (84, 1368));
+        assert_eq!((STANDINGS_AT, RUN_BYTES), (7512, 23_896));
+    }
+
+    #[test]
     fn a_run_has_its_counts_and_rules() {
         let mut bytes = run_bytes();
         // The second rule slot; its correlation has a count and, at place 3,
         // a comparison.
-        put(&mut bytes, 104, &[12, 64, 65, 1, 2, 1, 0, 0, 4, 3, 2, 1]);
-        put(&mut bytes, 104 + 12 + 36, &[4]);
-        let place = 104 + 12 + 36 + 4 + 3 * 8;
+        put(&mut bytes, 108, &[12, 64, 65, 1, 2, 1, 0, 0, 4, 3, 2, 1]);
+        put(&mut bytes, 108 + 12 + 36, &[4]);
+        let place = 108 + 12 + 36 + 4 + 3 * 8;
         put(&mut bytes, place, &[4, 5, 1, 2, 254, 255, 255, 255]);
         let record = decode_run(&bytes).expect("a run");
         assert_eq!((record.closed, record.count), (true, 3));
@@ -357,11 +370,11 @@ mod tests {
     #[test]
     fn a_run_has_its_events_and_standings() {
         let mut bytes = run_bytes();
-        let last = 1304 + 24 * 255;
+        let last = 1368 + 24 * 255;
         put(&mut bytes, last, &[1, 2, 3, 4, 64, 0b1010]);
         put(&mut bytes, last + 8, &[255; 4]);
         put(&mut bytes, last + 16, &[7]);
-        put(&mut bytes, 7448 + 4 * 257, &[2, 0, 4, 1]);
+        put(&mut bytes, 7512 + 4 * 257, &[2, 0, 4, 1]);
         put(&mut bytes, RUN_BYTES - 4, &[1]);
         let record = decode_run(&bytes).expect("a run");
         let expected = Event::new(0x0403_0201, 64)
@@ -388,12 +401,12 @@ mod tests {
             (41, 6),
             (42, 2),
             (43, 1),
-            (1309, 16),
-            (1310, 1),
-            (1312, 1),
-            (7448, 4),
-            (7449, 1),
-            (7450, 1),
+            (1373, 16),
+            (1374, 1),
+            (1376, 1),
+            (7512, 4),
+            (7513, 1),
+            (7514, 1),
         ];
         for (at, byte) in wrong {
             let mut bytes = run_bytes();

@@ -17,7 +17,7 @@ impl<'a> Bytes<'a> {
     fn next<const N: usize>(&mut self) -> Result<[u8; N], Wrong> {
         let from = self.at;
         let part = self.bytes.get(from..from + N);
-        let part = part.ok_or(format!("it ends before byte {}", from + N))?;
+        let part = part.ok_or_else(|| format!("it ends before byte {}", from + N))?;
         self.at += N;
         Ok(part.try_into().expect("a part of N bytes"))
     }

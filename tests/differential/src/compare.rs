@@ -32,7 +32,7 @@ pub fn agree(program: &dyn Program, cases: impl IntoIterator<Item = Case>) -> Co
             println!("{counts}");
             counts
         }
-        Err(difference) => panic!("{difference}"),
+        Err(difference) => panic!("{}", difference.with_kept_script()),
     }
 }
 

@@ -1,7 +1,7 @@
 //! What is said of a difference.
 
 use crate::script::Case;
-use evaluator::{place, start, Record, Standing, TableRecord};
+use evaluator::{place, Record};
 use std::fmt::{self, Debug, Display};
 
 /// So many fields of a run are shown.
@@ -23,34 +23,45 @@ pub struct Difference {
     pub seed: u64,
     /// What was given to the program up to the difference.
     pub given: String,
+    /// The whole script for `probe`, if that was the program.
+    pub script: Vec<u8>,
     pub mismatch: Mismatch,
 }
 
 impl Difference {
-    /// The step at `at` of a case differs. The script of the whole case is kept
-    /// in a file, so that `probe` can be run on it.
+    /// The step at `at` of a case differs.
     pub fn in_case(case: &Case, at: usize, mismatch: Mismatch) -> Difference {
-        let name = format!("differential-{}-{}.script", case.kind, case.seed);
-        let path = std::env::temp_dir().join(name);
-        let kept = match std::fs::write(&path, case.script()) {
-            Ok(()) => format!("all of it is in {}", path.display()),
-            Err(error) => format!("it could not be kept: {error}"),
-        };
         let steps = &case.steps[..=at];
         let left_out = steps.len().saturating_sub(SHOWN_COMMANDS);
-        let mut given = format!("script, {kept}\n");
+        let mut given = "the script so far:".to_string();
         if left_out > 0 {
-            given += &format!("  ({left_out} commands)\n");
+            given += &format!("\n  ({left_out} commands)");
         }
         for step in &steps[left_out..] {
-            given += &format!("  {}\n", step.command);
+            given += &format!("\n  {}", step.command);
         }
         Difference {
             kind: case.kind,
             seed: case.seed,
             given,
+            script: case.script(),
             mismatch,
         }
+    }
+
+    /// Keeps the script in a file, so that `probe` can be run on it, and says
+    /// where.
+    pub fn with_kept_script(mut self) -> Difference {
+        if !self.script.is_empty() {
+            let name = format!("differential-{}-{}.script", self.kind, self.seed);
+            let path = std::env::temp_dir().join(name);
+            let kept = match std::fs::write(&path, &self.script) {
+                Ok(()) => format!("the whole script is in {}", path.display()),
+                Err(error) => format!("the whole script could not be kept: {error}"),
+            };
+            self.given = format!("{}\n{kept}", self.given);
+        }
+        self
     }
 }
 
@@ -135,7 +146,7 @@ pub fn differing_used_fields(expected: &Record, found: &Record) -> Result<(), Mi
 #[cfg(test)]
 mod tests {
     use super::*;
-    use evaluator::{grown, Event, Rule};
+    use evaluator::{grown, start, Event, Rule, Standing, TableRecord};
 
     fn run() -> Record {
         let rules = [Rule::new(2, 1, 2, 0, None), Rule::new(9, 1, 2, 0, None)];

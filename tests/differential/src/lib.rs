@@ -8,7 +8,7 @@
 //! - [`expected`]: what an answer or a dump has to be.
 //! - [`script`]: cases, and a [`script::Session`] that makes each call on the
 //!   script and on the evaluator's run.
-//! - [`probe`], [`report`]: the two programs.
+//! - [`probe`], [`report`], [`folder`]: the two programs and their files.
 //! - [`cases`]: the cases, each from a seed.
 //! - [`counts`]: how much was compared.
 //! - [`stand_in`]: the evaluator behind `probe`'s commands, right or with a
@@ -22,6 +22,7 @@ pub mod compare;
 pub mod counts;
 pub mod differ;
 pub mod expected;
+pub mod folder;
 pub mod probe;
 pub mod report;
 pub mod script;

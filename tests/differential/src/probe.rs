@@ -1,8 +1,9 @@
 //! The program `probe`: a whole script in, all answers out.
 
-use std::io::{Read, Write};
+use crate::folder::Folder;
+use std::fs::File;
 use std::path::{Path, PathBuf};
-use std::process::{Child, Command, ExitStatus, Stdio};
+use std::process::{Command, ExitStatus};
 
 /// All answers and dumps of a script, in order, and how the program ended if
 /// that was not well.
@@ -38,37 +39,29 @@ impl Probe {
         }
     }
 
-    fn spawn(&self) -> Child {
-        let spawned = Command::new(&self.path)
-            .stdin(Stdio::piped())
-            .stdout(Stdio::piped())
-            .spawn();
-        spawned.unwrap_or_else(|error| panic!("{} does not run: {error}", self.path.display()))
+    fn run(&self, input: File, output: File) -> ExitStatus {
+        let status = Command::new(&self.path)
+            .stdin(input)
+            .stdout(output)
+            .status();
+        status.unwrap_or_else(|error| panic!("{} does not run: {error}", self.path.display()))
     }
 }
 
 impl Program for Probe {
-    /// The script is written beside the reading, so that neither pipe has to
-    /// hold it all.
+    /// Script and answers go through files, so that neither side waits for the
+    /// other.
     fn answers(&self, script: &[u8]) -> Answers {
-        let mut child = self.spawn();
-        let mut input = child.stdin.take().expect("a pipe to probe");
-        let mut output = child.stdout.take().expect("a pipe from probe");
-        let mut bytes = Vec::new();
-        let read = std::thread::scope(|scope| {
-            // A probe that ends early is seen by its answers.
-            scope.spawn(move || drop(input.write_all(script)));
-            output.read_to_end(&mut bytes)
-        });
-        let status = child.wait().expect("the end of probe");
-        read.expect("answers of probe");
-        Answers {
-            bytes,
-            bad_end: bad_end(status),
-        }
+        let folder = Folder::new();
+        let (input, output) = (folder.path.join("script"), folder.path.join("answers"));
+        std::fs::write(&input, script).expect("a file for the script");
+        let status = self.run(
+            File::open(&input).expect("the script"),
+            File::create(&output).expect("a file for the answers"),
+        );
+        let bytes = std::fs::read(&output).expect("the answers");
+        folder.remove();
+        let bad_end = (!status.success()).then(|| format!("probe ended with {status}"));
+        Answers { bytes, bad_end }
     }
-}
-
-fn bad_end(status: ExitStatus) -> Option<String> {
-    (!status.success()).then(|| format!("probe ended with {status}"))
 }

@@ -3,7 +3,6 @@
 use crate::probe::path_of;
 use std::path::{Path, PathBuf};
 use std::process::{Child, Command, Output, Stdio};
-use std::sync::atomic::{AtomicUsize, Ordering};
 use std::time::{Duration, Instant};
 
 /// `report` as a program to run.
@@ -65,33 +64,5 @@ fn ended(output: Output) -> Result<Vec<u8>, String> {
     match output.status.code() {
         Some(_) => Ok(output.stdout),
         None => Err(format!("it ended with {}", output.status)),
-    }
-}
-
-/// A new folder below the folder for temporary files.
-pub struct Folder {
-    pub path: PathBuf,
-}
-
-impl Folder {
-    pub fn new() -> Folder {
-        static NUMBER: AtomicUsize = AtomicUsize::new(0);
-        let number = NUMBER.fetch_add(1, Ordering::Relaxed);
-        let name = format!("differential-{}-{number}", std::process::id());
-        let path = std::env::temp_dir().join(name);
-        std::fs::create_dir(&path).expect("a new folder");
-        Folder { path }
-    }
-
-    /// The folder is not needed any more. One that a difference was found in
-    /// is kept.
-    pub fn remove(self) {
-        std::fs::remove_dir_all(&self.path).expect("a folder to remove");
-    }
-}
-
-impl Default for Folder {
-    fn default() -> Folder {
-        Folder::new()
     }
 }

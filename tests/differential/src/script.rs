@@ -5,7 +5,7 @@ use crate::command::Command;
 use crate::expected::Expected;
 use evaluator::slots::{COMPARISON_SLOTS, RULE_SLOTS};
 use evaluator::{absorb, notebook_record, place, start, Comparison, ConditionSlot, Event};
-use evaluator::{Operator, Record, Refusal, RuleSlot, Standing, TableRecord, Tally, Text};
+use evaluator::{Operator, Record, Refusal, Rule, RuleSlot, Standing, TableRecord, Tally, Text};
 
 /// A command and what it has to answer, if it answers.
 #[derive(Debug, Clone)]
@@ -155,6 +155,21 @@ pub fn new_table(count: u64) -> TableRecord {
         count,
         rules: [rule; RULE_SLOTS],
     }
+}
+
+/// A table of these rules. What no rule uses is as in a new table.
+pub fn table_of(rules: &[Rule]) -> TableRecord {
+    let mut table = new_table(rules.len() as u64);
+    for (slot, rule) in table.rules.iter_mut().zip(rules) {
+        let unset = *slot;
+        *slot = RuleSlot::of(rule);
+        let conditions = [&mut slot.activation_condition, &mut slot.correlation];
+        for condition in conditions {
+            let used = usize::from(condition.count);
+            condition.comparisons[used..].copy_from_slice(&unset.correlation.comparisons[used..]);
+        }
+    }
+    table
 }
 
 /// A case together with the evaluator's run and tally. Each call is made on

@@ -379,9 +379,9 @@ impl State {
         if letter == b'R' {
             let answer = read_rules(text).map(|mut rules| {
                 if self.has(Mistake::DropsComparisons) {
-                    rules
-                        .iter_mut()
-                        .for_each(|rule| drop(rule.correlation.pop()));
+                    for rule in &mut rules {
+                        rule.correlation.pop();
+                    }
                 }
                 self.table = TableRecord::of(&rules);
             });

@@ -1,1 +1,159 @@
+//! Runs that no call grew. `probe` is needed with the commands on tables and
+//! runs.
 
+use differential::cases::causes::{allowed, base, causes};
+use differential::cases::records::WRITTEN;
+use differential::cases::records::{allowed_case, ask_all_numbers, case, cause_case, stale_case};
+use differential::compare::agree;
+use differential::probe::Probe;
+use differential::script::{Case, Session};
+use evaluator::Standing::{Fulfilled, Idle, Open, Violated};
+use evaluator::{grown, place, Event, Record, Rule};
+
+/// Each cause alone, and the same in a closed run.
+#[test]
+fn each_cause_of_11() {
+    let runs: Vec<Record> = [false, true]
+        .into_iter()
+        .flat_map(|closed| causes(closed).into_iter().map(|(_, run)| run))
+        .collect();
+    let number = runs.len();
+    assert!(number >= 400, "{number}");
+    let counts = agree(
+        &Probe::find(),
+        (0..).zip(runs).map(|(number, run)| cause_case(number, run)),
+    );
+    assert_eq!(counts.answered('e', 11), 4 * number);
+    assert_eq!(counts.numbers('e'), [11]);
+    assert_eq!(counts.numbers('x'), [11]);
+    assert_eq!(counts.numbers('g'), [11]);
+    assert_eq!(counts.numbers('o'), [11]);
+    assert!(counts.answered('s', 11) >= 200);
+    assert_eq!(counts.dumps('D'), 6 * number);
+}
+
+/// The limits themselves, and values outside of them that nothing reads.
+#[test]
+fn what_is_no_cause_of_11() {
+    let runs: Vec<Record> = [false, true]
+        .into_iter()
+        .flat_map(|closed| allowed(closed).into_iter().map(|(_, run)| run))
+        .collect();
+    let number = runs.len();
+    assert!(number >= 200, "{number}");
+    let counts = agree(
+        &Probe::find(),
+        (0..)
+            .zip(runs)
+            .map(|(number, run)| allowed_case(number, run)),
+    );
+    assert_eq!(counts.answered('e', 0), number / 2);
+    assert_eq!(counts.answered('e', 9), number / 2 * 4);
+    assert_eq!(counts.numbers('e'), [0, 3, 7, 9]);
+    assert_eq!(counts.numbers('x'), [0, 9]);
+    assert_eq!(counts.numbers('g'), [0, 10]);
+    assert_eq!(counts.numbers('o'), [0, 10]);
+    assert_eq!(counts.numbers('s'), [0]);
+}
+
+#[test]
+fn random_records() {
+    let counts = agree(&Probe::find(), (3_000_000..3_001_600).map(case));
+    assert_eq!(counts.numbers('e'), [0, 3, 7, 8, 9, 11]);
+    assert!(counts.answered('e', 0) >= 500);
+    assert!(counts.answered('e', 11) >= 500);
+    assert_eq!(counts.numbers('x'), [0, 9, 11]);
+    assert_eq!(counts.numbers('g'), [0, 10, 11]);
+    assert_eq!(counts.numbers('o'), [0, 10, 11]);
+    assert_eq!(counts.numbers('s'), [0, 11]);
+    assert!(counts.dumps('D') >= 6000);
+}
+
+#[test]
+fn stale_standings() {
+    let counts = agree(&Probe::find(), (4_000_000..4_001_000).map(stale_case));
+    assert_eq!(counts.numbers('e'), [0, 8]);
+    assert!(counts.answered('e', 0) >= 1500);
+    assert!(counts.answered('e', 8) >= 5);
+    assert_eq!(counts.answered('x', 0), 1000);
+    assert!(counts.dumps('D') >= 3500);
+}
+
+/// A wrong verdict is carried over, a stale open or idle standing is judged
+/// anew, and so is an open one at an event that is no activation.
+#[test]
+fn standings_carried_over_and_judged_anew() {
+    let events = [Event::new(0, 1), Event::new(1, 2), Event::new(2, 1)];
+    let mut run = grown(&[Rule::new(2, 1, 2, 0, None)], &events);
+    let expected = [
+        (Fulfilled(3), Idle, Open, [Fulfilled(3), Idle, Open]),
+        (
+            Violated(0),
+            Violated(2),
+            Idle,
+            [Violated(0), Violated(2), Open],
+        ),
+        (
+            Idle,
+            Fulfilled(0),
+            Violated(1),
+            [Fulfilled(2), Fulfilled(0), Violated(1)],
+        ),
+        (Open, Open, Open, [Fulfilled(2), Idle, Open]),
+    ];
+    let mut cases = Vec::new();
+    for (number, (first, second, third, after)) in (0..).zip(expected) {
+        run.standings[..3].copy_from_slice(&[first, second, third]);
+        let mut session = Session::on(WRITTEN, number, run.clone());
+        session.take(Event::new(3, 9)).expect("a take");
+        assert_eq!(session.rows()[0][..3], after);
+        session.compare_run();
+        cases.push(session.case);
+    }
+    assert_eq!(agree(&Probe::find(), cases).dumps('D'), 4);
+}
+
+/// A run with 16 rules and 256 events, all standings decided.
+fn full_run(closed: bool) -> Record {
+    let rules = vec![Rule::new(5, 1, 1, 0, None); 16];
+    let mut run = grown(&rules, &[]);
+    run.closed = closed;
+    run.count = 256;
+    for rule in 1..=16 {
+        for position in 1..=256 {
+            run.standings[place(rule, position)] = Fulfilled(position as u16);
+        }
+    }
+    run.standings[place(16, 256)] = Violated(256);
+    run
+}
+
+fn numbers_case(number: u64, run: Record) -> Case {
+    let mut session = Session::on(WRITTEN, number, run);
+    ask_all_numbers(&mut session);
+    session.case
+}
+
+#[test]
+fn numbers_of_rules_and_positions() {
+    let runs = [
+        grown(&[], &[]),
+        grown(&[Rule::new(2, 1, 2, 0, None)], &[]),
+        grown(&[], &[Event::new(0, 1)]),
+        grown(&[Rule::new(2, 1, 2, 0, None)], &[Event::new(0, 1)]),
+        base(false),
+        base(true),
+        full_run(false),
+        full_run(true),
+    ];
+    let cases = (0..).zip(runs);
+    let counts = agree(
+        &Probe::find(),
+        cases.map(|(number, run)| numbers_case(number, run)),
+    );
+    assert_eq!(counts.calls('g'), 8 * 11 * 11);
+    assert_eq!(counts.calls('o'), 8 * (11 + 4));
+    assert!(counts.answered('g', 0) >= 20 && counts.answered('o', 0) >= 10);
+    assert_eq!(counts.numbers('g'), [0, 10]);
+    assert_eq!(counts.numbers('o'), [0, 10]);
+}

@@ -1,1 +1,185 @@
+//! The readers of the two texts and the notebook reading. `probe` is needed with
+//! the commands R, Y and N.
 
+use differential::cases::texts::{cycle_case, cycle_text_case, pair_case, pair_text_case};
+use differential::cases::texts::{rules_case, rules_text_case};
+use differential::command::LARGEST_TEXT;
+use differential::compare::agree;
+use differential::probe::Probe;
+use evaluator::damage::{EDGE_FIELDS, ODD_COMPARISONS};
+
+const RULES: &str = "2\t1\t2\t0\t500\t-\t-\n6\t3\t2\t0\t-\t-\t1=@1:0\n";
+const CYCLE: &str = "0\t1\t7\t-\t-\t-\n400\t2\t7\t-\t-\t-\n400\t3\t7\t-\t-\t-\n\
+    900\t3\t7\t-\t-\t-\n1000\t1\t7\t-\t-\t-\n1500\t2\t7\t-\t-\t-\n";
+
+#[test]
+fn random_rules_texts() {
+    let counts = agree(&Probe::find(), (7_000_000..7_015_000).map(rules_case));
+    assert_eq!(counts.calls('R'), 15_000);
+    assert_eq!(counts.numbers('R'), [0, 1, 2, 3, 4, 5, 6, 8, 12]);
+    for number in counts.numbers('R') {
+        let found = counts.answered('R', number);
+        assert!(found >= 25, "{number}: {found}");
+    }
+    assert!(counts.dumps('D') > counts.answered('R', 0) + 300);
+}
+
+#[test]
+fn random_cycle_texts() {
+    let counts = agree(&Probe::find(), (7_100_000..7_110_000).map(cycle_case));
+    assert_eq!(counts.calls('Y'), 10_000);
+    assert_eq!(counts.numbers('Y'), [0, 1, 2, 3, 7, 8, 12]);
+    for number in counts.numbers('Y') {
+        let found = counts.answered('Y', number);
+        assert!(found >= 25, "{number}: {found}");
+    }
+    assert!(counts.dumps('D') > counts.answered('Y', 0) + 200);
+}
+
+#[test]
+fn random_pairs_of_texts() {
+    let counts = agree(&Probe::find(), (7_200_000..7_205_000).map(pair_case));
+    assert_eq!(counts.calls('N'), 5000);
+    assert_eq!(counts.numbers('N'), [0, 1, 2, 3, 4, 5, 6, 7, 8, 12]);
+    assert!(counts.answered('N', 0) >= 2000);
+    assert!(counts.dumps('D') > counts.answered('N', 0) + 50);
+    assert!(counts.standings() >= 20_000);
+}
+
+/// The text with every byte in place of each of its bytes, with each byte left
+/// out, and with bytes of a meaning put in.
+fn byte_changes(text: &str) -> Vec<Vec<u8>> {
+    let text = text.as_bytes();
+    let mut texts = Vec::new();
+    for at in 0..text.len() {
+        let (before, after) = text.split_at(at);
+        let with = |byte: &[u8], after: &[u8]| [before, byte, after].concat();
+        texts.extend((0..=255).map(|byte| with(&[byte], &after[1..])));
+        texts.push(with(&[], &after[1..]));
+        let meaning = b"0159-,@:=\t\n\r";
+        texts.extend(meaning.iter().map(|byte| with(&[*byte], after)));
+    }
+    texts
+}
+
+#[test]
+fn every_change_of_one_byte_in_rules() {
+    let text = "12\t64\t1\t30\t50\t1!-7,2l0\t3g@4:10\n2\t1\t2\t0\t4294967295\t-\t-\n";
+    let texts = byte_changes(text);
+    let number = texts.len();
+    let cases = (0..).zip(texts);
+    let cases = cases.map(|(number, text)| rules_text_case(number, text));
+    let counts = agree(&Probe::find(), cases);
+    assert_eq!([counts.calls('R'), number], [text.len() * 269; 2]);
+    assert_eq!(counts.numbers('R'), [0, 1, 2, 3, 4, 5, 6, 12]);
+}
+
+#[test]
+fn every_change_of_one_byte_in_a_cycle() {
+    let text = "4294967294\t64\t-2147483648\t-\t0\t10\n4294967295\t1\t-\t-\t-\t-\n";
+    let texts = byte_changes(text);
+    let number = texts.len();
+    let cases = (0..).zip(texts);
+    let cases = cases.map(|(number, text)| cycle_text_case(number, text));
+    let counts = agree(&Probe::find(), cases);
+    assert_eq!([counts.calls('Y'), number], [text.len() * 269; 2]);
+    assert_eq!(counts.numbers('Y'), [0, 1, 2, 3, 7, 12]);
+}
+
+/// The line with each edge value in place of each field.
+fn field_changes(line: &str) -> Vec<Vec<u8>> {
+    let fields: Vec<&str> = line.trim_end().split('\t').collect();
+    let mut texts = Vec::new();
+    for at in 0..fields.len() {
+        for edge in EDGE_FIELDS {
+            let mut changed = fields.clone();
+            changed[at] = edge;
+            texts.push((changed.join("\t") + "\n").into_bytes());
+        }
+    }
+    texts
+}
+
+/// A rule with each odd comparison alone, first or last in either condition.
+fn comparison_changes() -> Vec<Vec<u8>> {
+    let mut texts = Vec::new();
+    for odd in ODD_COMPARISONS {
+        for condition in [odd.to_string(), format!("{odd},4=0"), format!("3=0,{odd}")] {
+            texts.push(format!("2\t1\t2\t0\t-\t{condition}\t-\n").into_bytes());
+            texts.push(format!("2\t1\t2\t0\t-\t-\t{condition}\n").into_bytes());
+        }
+    }
+    texts
+}
+
+#[test]
+fn edge_values_in_every_field() {
+    let probe = Probe::find();
+    let rules = [
+        field_changes("2\t1\t2\t3\t500\t-\t-\n"),
+        field_changes("2\t1\t2\t3\t-\t1=1\t1=@1:0\n"),
+        comparison_changes(),
+    ]
+    .concat();
+    let number = rules.len();
+    let cases = (0..).zip(rules);
+    let counts = agree(&probe, cases.map(|(n, text)| rules_text_case(n, text)));
+    assert_eq!(counts.calls('R'), number);
+    assert_eq!(number, 2 * 7 * 30 + 48 * 6);
+    assert!(counts.answered('R', 0) >= 60);
+    let cycles = field_changes("5\t1\t0\t-\t-\t-\n");
+    let cases = (0..).zip(cycles);
+    let counts = agree(&probe, cases.map(|(n, text)| cycle_text_case(n, text)));
+    assert_eq!(counts.calls('Y'), 6 * 30);
+    assert!(counts.answered('Y', 0) >= 40);
+}
+
+/// Texts of the largest size, of one line and of many.
+fn large_texts() -> Vec<Vec<u8>> {
+    let digits = |sign: &str, count| format!("0\t1\t-\t-\t-\t{sign}{}\n", "9".repeat(count));
+    let rule = |count| format!("2\t1\t2\t0\t-\t-\t1=@1:{}\n", "9".repeat(count));
+    let mut texts = vec![
+        vec![b'\n'; LARGEST_TEXT],
+        vec![b'\t'; LARGEST_TEXT],
+        vec![b'0'; LARGEST_TEXT],
+        vec![b','; LARGEST_TEXT],
+        CYCLE.repeat(50).into_bytes(),
+        RULES.repeat(1000).into_bytes(),
+        "0\t9\t-\t-\t-\t-\n".repeat(5000).into_bytes(),
+        digits("", LARGEST_TEXT - 13).into_bytes(),
+        digits("-", LARGEST_TEXT - 14).into_bytes(),
+        rule(LARGEST_TEXT - 20).into_bytes(),
+    ];
+    for count in [9, 10, 11, 19, 20, 21, 38, 39, 40, 255, 256, 257] {
+        texts.push(digits("", count).into_bytes());
+        texts.push(digits("-", count).into_bytes());
+        texts.push(rule(count).into_bytes());
+    }
+    texts
+}
+
+#[test]
+fn large_and_small_texts() {
+    let probe = Probe::find();
+    let small = ["", "\n", "\t", "-", "x", "\n\n", "\r\n", RULES, CYCLE];
+    let small = small.map(|text| text.as_bytes().to_vec());
+    let texts = [large_texts(), small.to_vec()].concat();
+    assert!(texts.iter().any(|text| text.len() == LARGEST_TEXT));
+    let number = texts.len();
+    let rules = (0..).zip(texts.clone());
+    let counts = agree(&probe, rules.map(|(n, text)| rules_text_case(n, text)));
+    assert_eq!(counts.calls('R'), number);
+    let cycles = (0..).zip(texts.clone());
+    let counts = agree(&probe, cycles.map(|(n, text)| cycle_text_case(n, text)));
+    assert_eq!(counts.calls('Y'), number);
+    let mut pairs = Vec::new();
+    for (index, text) in (0..).zip(&texts) {
+        pairs.push(pair_text_case(3 * index, text.clone(), Vec::new()));
+        pairs.push(pair_text_case(3 * index + 1, Vec::new(), text.clone()));
+        let rules = RULES.as_bytes().to_vec();
+        pairs.push(pair_text_case(3 * index + 2, rules, text.clone()));
+    }
+    let counts = agree(&probe, pairs);
+    assert_eq!(counts.calls('N'), 3 * number);
+    assert!(counts.answered('N', 0) >= 6);
+}

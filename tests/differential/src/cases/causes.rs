@@ -194,10 +194,9 @@ pub fn allowed(closed: bool) -> Vec<Named> {
     allowed_in_used_slots(&mut changed);
     for slot in [2, 3, 15] {
         rule_causes(&mut changed, slot);
-        for rule in 0..2 {
+        for position in [1, 4, 256] {
             for standing in [Open, Fulfilled(0), Violated(65_535)] {
-                let position = 1 + slot * 17 + rule;
-                let name = format!("{standing:?} in the row of slot {slot}");
+                let name = format!("{standing:?} at {position} in the row of slot {slot}");
                 let at = place(slot + 1, position);
                 changed.add(name, |run| run.standings[at] = standing);
             }

@@ -2,45 +2,50 @@
 //! rules and taken events.
 
 use crate::cases::running::refused_event;
-use crate::script::{Case, Session};
+use crate::differ::differing_used_fields;
+use crate::script::{table_of, Case, Session};
 use evaluator::random::{random_cycle, random_rules, Random};
-use evaluator::{write_cycle, write_rules, Rule, TableRecord};
+use evaluator::{write_cycle, write_rules, Rule};
 
 pub const KIND: &str = "notebook";
+pub const FULL: &str = "full-notebook";
 
 /// 0 to 16 rules and up to 40 events.
 pub fn case(seed: u64) -> Case {
     let mut random = Random::new(seed);
-    let rules = random.pick(&[0, 1, 2, 3, 5, 16]);
+    let count = random.pick(&[0, 1, 2, 3, 5, 16]);
     let length = random.pick(&[0, 1, 2, 3, 5, 8, 12, 20, 40]);
-    case_of(seed, &mut random, rules, length)
+    let rules = random_rules(&mut random, count);
+    let session = Session::started(KIND, seed, &table_of(&rules));
+    case_of(session, &mut random, &rules, length)
 }
 
 /// 1 to 3 rules and 256 events.
 pub fn full_case(seed: u64) -> Case {
     let mut random = Random::new(seed);
-    let rules = 1 + random.below(3);
-    case_of(seed, &mut random, rules, 256)
+    let count = 1 + random.below(3);
+    let rules = random_rules(&mut random, count);
+    let session = Session::started(FULL, seed, &table_of(&rules));
+    case_of(session, &mut random, &rules, 256)
 }
 
-fn case_of(seed: u64, random: &mut Random, rules: usize, length: usize) -> Case {
-    let rules = random_rules(random, rules);
-    let mut session = grown(seed, random, &rules, length);
+fn case_of(mut session: Session, random: &mut Random, rules: &[Rule], length: usize) -> Case {
+    grow(&mut session, random, rules, length);
     session.close().expect("a run that is not closed");
     compare_closed(&mut session);
     let grown = session.run.clone();
     let taken = &grown.events[..length];
-    let answer = session.notebook(write_rules(&rules), write_cycle(taken));
+    let answer = session.notebook(write_rules(rules), write_cycle(taken));
     answer.expect("texts of valid rules and taken events");
     // The evaluator's two ways agree, so both are compared with one list.
-    assert!(session.run == grown, "seed {seed}");
+    let same = differing_used_fields(&grown, &session.run);
+    assert_eq!(same, Ok(()), "seed {}", session.case.seed);
     compare_closed(&mut session);
     session.compare_notebook_run();
     session.case
 }
 
-fn grown(seed: u64, random: &mut Random, rules: &[Rule], length: usize) -> Session {
-    let mut session = Session::started(KIND, seed, &TableRecord::of(rules));
+fn grow(session: &mut Session, random: &mut Random, rules: &[Rule], length: usize) {
     for event in random_cycle(random, rules, length) {
         if random.one_in(6) {
             let refused = refused_event(random, &session.run, event);
@@ -48,7 +53,6 @@ fn grown(seed: u64, random: &mut Random, rules: &[Rule], length: usize) -> Sessi
         }
         session.take(event).expect("a well-formed event");
     }
-    session
 }
 
 fn compare_closed(session: &mut Session) {

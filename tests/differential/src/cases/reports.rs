@@ -2,7 +2,8 @@
 
 use crate::cases::texts;
 use crate::differ::{Difference, Mismatch};
-use crate::report::{Folder, Report};
+use crate::folder::Folder;
+use crate::report::Report;
 use evaluator::damage::{damaged_cycle_text, damaged_rules_text};
 use evaluator::random::{random_cycle, random_rules, Random};
 use evaluator::{report, write_cycle, write_rules};
@@ -31,7 +32,8 @@ impl File {
         }
     }
 
-    fn put(&self, folder: &Path, name: &str) {
+    /// Puts it in a folder under this name.
+    pub fn put(&self, folder: &Path, name: &str) {
         let path = folder.join(name);
         let other = folder.join(format!("other-{name}"));
         let link = || std::os::unix::fs::symlink(&other, &path);
@@ -144,6 +146,7 @@ pub fn compare(
             "folder {}\nrules.tsv: {rules}\ncycle.tsv: {cycle}",
             folder.path.display()
         ),
+        script: Vec::new(),
         mismatch,
     }))
 }

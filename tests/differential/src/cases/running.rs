@@ -1,31 +1,34 @@
 //! Runs from start: random rules, random cycles, refused takes mixed in.
 
-use crate::script::{Case, Session};
+use crate::script::{table_of, Case, Session};
 use evaluator::random::{random_cycle, random_rules, Random};
-use evaluator::{Event, Record, Refusal, TableRecord};
+use evaluator::{Event, Record, Refusal, Rule};
 
 pub const KIND: &str = "running";
+pub const FULL: &str = "full-running";
 
 /// A run of 0 to 16 rules and up to 30 events.
 pub fn case(seed: u64) -> Case {
     let mut random = Random::new(seed);
-    let rules = random.pick(&[0, 1, 1, 2, 2, 3, 4, 6, 16]);
+    let count = random.pick(&[0, 1, 1, 2, 2, 3, 4, 6, 16]);
     let length = random.pick(&[1, 2, 3, 5, 8, 12, 20, 30]);
-    run_of(seed, &mut random, rules, length)
+    let rules = random_rules(&mut random, count);
+    let session = Session::started(KIND, seed, &table_of(&rules));
+    run_of(session, &mut random, &rules, length)
 }
 
 /// A run of 1 to 3 rules and 256 events.
 pub fn full_case(seed: u64) -> Case {
     let mut random = Random::new(seed);
-    let rules = 1 + random.below(3);
-    run_of(seed, &mut random, rules, 256)
+    let count = 1 + random.below(3);
+    let rules = random_rules(&mut random, count);
+    let session = Session::started(FULL, seed, &table_of(&rules));
+    run_of(session, &mut random, &rules, 256)
 }
 
-fn run_of(seed: u64, random: &mut Random, rules: usize, length: usize) -> Case {
-    let rules = random_rules(random, rules);
-    let mut session = Session::started(KIND, seed, &TableRecord::of(&rules));
+fn run_of(mut session: Session, random: &mut Random, rules: &[Rule], length: usize) -> Case {
     compare_all(&mut session, random);
-    for event in random_cycle(random, &rules, length) {
+    for event in random_cycle(random, rules, length) {
         if random.one_in(5) {
             let refused = refused_event(random, &session.run, event);
             take(&mut session, random, refused).expect_err("a refusal");

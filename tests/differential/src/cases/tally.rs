@@ -1,11 +1,14 @@
 //! Runs absorbed into a tally near its limits.
 
+use crate::cases::records::FILLED;
 use crate::script::{Case, Session};
 use evaluator::fabricate::{fabricated, fill_unused, random_record};
 use evaluator::random::Random;
 use evaluator::{Record, Tally};
 
 pub const KIND: &str = "tally";
+/// Written-out tallies; their numbers stand for seeds.
+pub const WRITTEN: &str = "written-tallies";
 
 const LARGEST: u32 = u32::MAX;
 
@@ -14,15 +17,18 @@ pub fn case(seed: u64) -> Case {
     let mut random = Random::new(seed);
     let run = random_run(&mut random);
     let mut session = Session::on(KIND, seed, run);
+    session.set_tally(Tally::default());
     for _ in 0..1 + random.below(4) {
         let rule = rule_number(&mut random, &session.run);
         if random.one_in(2) {
             let tally = near_limits(&mut random, &session.run, rule);
             session.set_tally(tally);
         }
-        drop(session.absorb(rule));
+        let _ = session.absorb(rule);
     }
-    session.compare_run();
+    if seed.is_multiple_of(4) {
+        session.compare_run();
+    }
     session.case
 }
 
@@ -31,7 +37,7 @@ fn random_run(random: &mut Random) -> Record {
     if !random.one_in(4) {
         run = run.close().0;
     }
-    if random.one_in(3) {
+    if random.one_in(FILLED) {
         fill_unused(random, &mut run);
     }
     let changes = random.pick(&[0, 0, 0, 1, 2]);
@@ -82,7 +88,7 @@ pub fn edge_cases(seed: u64, run: &Record, rule: u64) -> Case {
         let last = LARGEST - added;
         [0, last, last.saturating_add(1), LARGEST - 1, LARGEST]
     };
-    let mut session = Session::on(KIND, seed, run.clone());
+    let mut session = Session::on(WRITTEN, seed, run.clone());
     for cycles in edges(1) {
         for activations in edges(totals.activations) {
             for fulfilled in edges(totals.fulfilled) {
@@ -93,7 +99,7 @@ pub fn edge_cases(seed: u64, run: &Record, rule: u64) -> Case {
                         fulfilled,
                         violated,
                     });
-                    drop(session.absorb(rule));
+                    let _ = session.absorb(rule);
                 }
             }
         }

@@ -67,7 +67,7 @@ pub fn rules_text_case(seed: u64, text: Vec<u8>) -> Case {
     case.ask(Command::ReadRules(text), Expected::Answer(answer));
     let expected = match read {
         Ok(rules) => Some(Expected::Rules(rules)),
-        Err(_) if seed % UNCHANGED_EVERY == 0 => {
+        Err(_) if seed.is_multiple_of(UNCHANGED_EVERY) => {
             let mut run = fresh_run();
             run.table = table;
             Some(Expected::Run(Box::new(run)))
@@ -93,7 +93,7 @@ pub fn cycle_text_case(seed: u64, text: Vec<u8>) -> Case {
     case.ask(Command::ReadCycle(text), Expected::Answer(answer));
     match read {
         Ok(events) => case.ask(Command::DumpRun, Expected::Events(events)),
-        Err(_) if seed % UNCHANGED_EVERY == 0 => {
+        Err(_) if seed.is_multiple_of(UNCHANGED_EVERY) => {
             case.ask(Command::DumpRun, Expected::Run(Box::new(run)));
         }
         Err(_) => {}
@@ -149,7 +149,7 @@ pub fn pair_text_case(seed: u64, rules: Vec<u8>, cycle: Vec<u8>) -> Case {
             session.compare_standings();
             session.all_totals();
         }
-        Err(_) if seed % UNCHANGED_EVERY == 0 => session.compare_run(),
+        Err(_) if seed.is_multiple_of(UNCHANGED_EVERY) => session.compare_run(),
         Err(_) => {}
     }
     session.case
