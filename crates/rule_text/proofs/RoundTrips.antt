@@ -1,0 +1,286 @@
+-- What an accepted rules text gives, and that writing and reading undo each other: first for one line, then for a text by the laws of texts.
+-- A text says nothing of the slots that a condition does not use: a rule and its tidy form are written alike, and the tidy form is read back.
+use mathlib.Core.Path.{_≡_, refl, sym, _∙_, ap}
+use mathlib.Core.Bool.{Bool, true, false, cond, _&&_, false≢true}
+use mathlib.Core.List.{List, [], _∷_, _++_, map}
+use Prim.Native.Nat.{ℕ, suc, _+_, _≤_, _<_}
+use native.Mathlib.Omega.{arith}
+use borrow.Author.Tests.{leb-true, le-leb, ltb-true, lt-ltb, eqb-true, ne-eqb}
+use lib.Dec.{leb, ltb, eqb}
+use lib.IntN.{pos}
+use lib.ListN.{length, getD, length-append}
+use Rattle.declare.specs.declared.Reading.the-variants.{Blank}
+use Rattle.declare.specs.Lists.{all}
+use Rattle.declare.specs.Events.{latest, isActivity}
+use Rattle.declare.specs.Conditions.{comparisonsOf}
+use Rattle.declare.specs.Rules.{isTemplate, validCondition, validEnd, validWindow, validHead, validRule}
+use Rattle.declare.proofs.Booleans.{and₂, and₃, and₄, both, both₃, all-append}
+use Rattle.number.specs.Number.{dash, none}
+use Rattle.number.specs.Written.{digitsOf, integerText}
+use Rattle.number.proofs.Written.{integer-not-dash}
+use Rattle.line.specs.Fields.{LF, tab}
+use Rattle.line.specs.Answers.{Of, _>>=_, _>>_, require}
+use Rattle.line.specs.Values.{numberField, readingText}
+use Rattle.line.specs.Texts.{All, writtenLine, writtenText}
+use Rattle.line.proofs.Answers.{of-of, through, required}
+use Rattle.line.proofs.Values.{dash-text, number-written, number-read, lacks-number, lacks-reading}
+use Rattle.line.proofs.Joined.{lacks}
+use Rattle.line.proofs.Texts.{Parted, Follow, text-written, text-back, accepted}
+use Rattle.rule_text.specs.Types.{Condition, End, Never, At, Window, Rule}
+use Rattle.rule_text.specs.Conditions.{comma, conditionField}
+use Rattle.rule_text.specs.Rules.{endField, isAbove, ruleOf, inTable, ruleAfter, rulesTextOf}
+use Rattle.rule_text.specs.Written.{comparisonsText, conditionText, endText, ruleFields, rulesText, tidyCondition, tidy, Sound, RoundTrips}
+use Rattle.rule_text.proofs.ConditionTexts.{condition-lacks, condition-written, condition-read}
+use Rattle.rule_text.proofs.Tidy.{tidy-comparisons}
+
+-- ---- the end of a window
+
+end-written : (a : ℕ) (e : End) → validEnd a e ≡ true → endField (endText e) ≡ Of e
+unfolding validEnd latest endField endText _>>=_
+end-written a Never v = unfold dash none in refl
+end-written a (At b) v =
+    let p : (ltb a b ≡ true) × (leb b 4294967295 ≡ true) = and₂ v in
+    let low : a < b = ltb-true a b (p .0) in
+    rw (not-dash b, number-written 1 4294967295 b (omega arith) (leb-true b 4294967295 (p .1)))
+  where
+    not-dash : (n : ℕ) → dash (digitsOf n) ≡ false
+    not-dash n = unfold integerText in integer-not-dash (pos n)
+
+record EndRead (field : List ℕ) (e : End) : Type 0 where
+  text : endText e ≡ field
+  valid : (a : ℕ) → isAbove e a ≡ true → validEnd a e ≡ true
+
+never-read : (field : List ℕ) → dash field ≡ true → EndRead field Never
+unfolding endText validEnd
+never-read field p = record { text = dash-text field p; valid = λ a h. refl }
+
+at-read : (field : List ℕ) (b : ℕ) → numberField 1 4294967295 field ≡ Of b → EndRead field (At b)
+unfolding endText validEnd isAbove latest
+at-read field b h =
+    let w = number-read 1 4294967295 field b h in
+    record { text = w .text; valid = λ a e. both e (le-leb b 4294967295 (w .high)) }
+
+end-read : (field : List ℕ) (e : End) → endField field ≡ Of e → EndRead field e
+unfolding endField
+end-read field e h = go (dash field) refl h
+  where
+    go : (t : Bool) → dash field ≡ t → cond t (Of Never) (numberField 1 4294967295 field >>= λ b. Of (At b)) ≡ Of e → EndRead field e
+    go true p q = rw (← of-of q) (never-read field p)
+    go false p q =
+        let w = through (numberField 1 4294967295 field) (λ b. Of (At b)) e q in
+        rw (← of-of (w .rest)) (at-read field (w .value) (w .first))
+
+end-lacks : (b : ℕ) → b < 45 → (e : End) → lacks b (endText e) ≡ true
+unfolding endText
+end-lacks b h Never = unfold readingText in lacks-reading b Blank h
+end-lacks b h (At n) = lacks-number b n h
+
+-- ---- a line that was read
+
+-- what its seven fields gave
+record RuleRead (fields : List (List ℕ)) (r : Rule) : Type 0 where
+  seven : length fields ≡ 7
+  code : numberField 1 12 (getD fields 0 []) ≡ Of (r .code)
+  activation : numberField 1 64 (getD fields 1 []) ≡ Of (r .activation)
+  target : numberField 1 64 (getD fields 2 []) ≡ Of (r .target)
+  from : numberField 0 4294967295 (getD fields 3 []) ≡ Of (r .window .from)
+  until : endField (getD fields 4 []) ≡ Of (r .window .until)
+  condition : conditionField false (getD fields 5 []) ≡ Of (r .condition)
+  correlation : conditionField true (getD fields 6 []) ≡ Of (r .correlation)
+  order : isAbove (r .window .until) (r .window .from) ≡ true
+
+rule-read : (fields : List (List ℕ)) (r : Rule) → ruleOf fields ≡ Of r → RuleRead fields r
+unfolding ruleOf
+rule-read fields r h =
+    let s = required _ 1 _ r h in
+    let c = through _ _ r (s .1) in
+    let a = through _ _ r (c .rest) in
+    let t = through _ _ r (a .rest) in
+    let f = through _ _ r (t .rest) in
+    let u = through _ _ r (f .rest) in
+    let x = through _ _ r (u .rest) in
+    let y = through _ _ r (x .rest) in
+    let o = required _ 6 _ r (y .rest) in
+    let k = of-of (o .1) in
+    record {
+      seven = eqb-true (length fields) 7 (s .0);
+      code = c .first ∙ ap (λ (q : Rule). Of (q .code)) k;
+      activation = a .first ∙ ap (λ (q : Rule). Of (q .activation)) k;
+      target = t .first ∙ ap (λ (q : Rule). Of (q .target)) k;
+      from = f .first ∙ ap (λ (q : Rule). Of (q .window .from)) k;
+      until = u .first ∙ ap (λ (q : Rule). Of (q .window .until)) k;
+      condition = x .first ∙ ap (λ (q : Rule). Of (q .condition)) k;
+      correlation = y .first ∙ ap (λ (q : Rule). Of (q .correlation)) k;
+      order = sym (ap (λ (q : Rule). isAbove (q .window .until) (q .window .from)) k) ∙ o .0;
+    }
+
+in-range : (low high n : ℕ) → low ≤ n → n ≤ high → (leb low n && leb n high) ≡ true
+in-range low high n a b = both (le-leb low n a) (le-leb n high b)
+
+-- its rule is within the limits
+read-valid : (fields : List (List ℕ)) (r : Rule) → RuleRead fields r → validRule r ≡ true
+unfolding validRule validHead validWindow isTemplate isActivity latest
+read-valid fields r h =
+    let c = number-read 1 12 _ _ (h .code) in
+    let a = number-read 1 64 _ _ (h .activation) in
+    let t = number-read 1 64 _ _ (h .target) in
+    let f = number-read 0 4294967295 _ _ (h .from) in
+    rw (in-range 1 12 (r .code) (c .low) (c .high), in-range 1 64 (r .activation) (a .low) (a .high), in-range 1 64 (r .target) (t .low) (t .high), le-leb (r .window .from) 4294967295 (f .high), end-read _ _ (h .until) .valid (r .window .from) (h .order), condition-read false _ _ (h .condition) .valid, condition-read true _ _ (h .correlation) .valid)
+
+read-tidy : (fields : List (List ℕ)) (r : Rule) → RuleRead fields r → tidy r ≡ r
+unfolding tidy
+read-tidy fields r h = rw (condition-read false _ _ (h .condition) .tidied, condition-read true _ _ (h .correlation) .tidied)
+
+seven-parts : (fs : List (List ℕ)) → length fs ≡ 7 → getD fs 0 [] ∷ getD fs 1 [] ∷ getD fs 2 [] ∷ getD fs 3 [] ∷ getD fs 4 [] ∷ getD fs 5 [] ∷ getD fs 6 [] ∷ [] ≡ fs
+seven-parts [] h = absurd (omega arith)
+seven-parts (a ∷ []) h = absurd (omega arith)
+seven-parts (a ∷ b ∷ []) h = absurd (omega arith)
+seven-parts (a ∷ b ∷ c ∷ []) h = absurd (omega arith)
+seven-parts (a ∷ b ∷ c ∷ d ∷ []) h = absurd (omega arith)
+seven-parts (a ∷ b ∷ c ∷ d ∷ e ∷ []) h = absurd (omega arith)
+seven-parts (a ∷ b ∷ c ∷ d ∷ e ∷ f ∷ []) h = absurd (omega arith)
+seven-parts (a ∷ b ∷ c ∷ d ∷ e ∷ f ∷ g ∷ []) h = refl
+seven-parts (a ∷ b ∷ c ∷ d ∷ e ∷ f ∷ g ∷ k ∷ fs) h = absurd (omega arith)
+
+-- and is written as the same fields
+read-fields : (fields : List (List ℕ)) (r : Rule) → RuleRead fields r → ruleFields r ≡ fields
+unfolding ruleFields
+read-fields fields r h =
+    rw (number-read 1 12 _ _ (h .code) .text, number-read 1 64 _ _ (h .activation) .text, number-read 1 64 _ _ (h .target) .text, number-read 0 4294967295 _ _ (h .from) .text, end-read _ _ (h .until) .text, condition-read false _ _ (h .condition) .text, condition-read true _ _ (h .correlation) .text)
+    (seven-parts fields (h .seven))
+
+-- what was checked of a line below others
+record After (above : List Rule) (fields : List (List ℕ)) (r : Rule) : Type 0 where
+  line : RuleRead fields r
+  room : length above < 16
+
+rule-after : (above : List Rule) (fields : List (List ℕ)) (r : Rule) → ruleAfter above fields ≡ Of r → After above fields r
+unfolding ruleAfter inTable
+rule-after above fields r h =
+    let t = through _ _ r h in
+    let l = required _ 8 _ r (t .rest) in
+    record {
+      line = rule-read fields r (t .first ∙ ap Of (of-of (l .1)));
+      room = ltb-true (length above) 16 (l .0);
+    }
+
+-- ---- an accepted text
+
+-- its rules are within the limits, and tidy
+record Accepted (rs : List Rule) : Type 0 where
+  sound : Sound rs
+  tidied : map tidy rs ≡ rs
+
+accepted-none : Accepted []
+unfolding all
+accepted-none = record { sound = record { most = omega arith; valid = refl }; tidied = refl }
+
+map-more : (rs : List Rule) (r : Rule) → map tidy rs ≡ rs → tidy r ≡ r → map tidy (rs ++ r ∷ []) ≡ rs ++ r ∷ []
+map-more rs r e f = tidy-parts rs (r ∷ []) ∙ rw (e, f)
+  where
+    tidy-parts : (qs ps : List Rule) → map tidy (qs ++ ps) ≡ map tidy qs ++ map tidy ps
+    tidy-parts [] ps = refl
+    tidy-parts (q ∷ qs) ps = ap (λ (l : List Rule). tidy q ∷ l) (tidy-parts qs ps)
+
+accepted-more : (above : List Rule) (fields : List (List ℕ)) (r : Rule) → Accepted above → ruleAfter above fields ≡ Of r → Accepted (above ++ r ∷ [])
+unfolding all
+accepted-more above fields r s h =
+    let a = rule-after above fields r h in
+    let most : length (above ++ r ∷ []) ≤ 16 = rw (length-append above (r ∷ [])) (omega (arith, a .room)) in
+    let valid : all validRule (above ++ r ∷ []) ≡ true = all-append validRule above (r ∷ []) (s .sound .valid) (both (read-valid fields r (a .line)) refl) in
+    record { sound = record { most = most; valid = valid }; tidied = map-more above r (s .tidied) (read-tidy fields r (a .line)) }
+
+accepted-text : (text : List ℕ) (rs : List Rule) → rulesTextOf text ≡ All rs → Accepted rs
+unfolding rulesTextOf
+accepted-text text rs h = accepted ruleAfter Accepted accepted-none accepted-more text rs h
+
+-- ---- a line that is written
+
+record Limits (r : Rule) : Type 0 where
+  code : (1 ≤ r .code) × (r .code ≤ 12)
+  activation : (1 ≤ r .activation) × (r .activation ≤ 64)
+  target : (1 ≤ r .target) × (r .target ≤ 64)
+  from : r .window .from ≤ 4294967295
+  until : validEnd (r .window .from) (r .window .until) ≡ true
+  condition : validCondition false (r .condition) ≡ true
+  correlation : validCondition true (r .correlation) ≡ true
+
+ends : (low high n : ℕ) → (leb low n && leb n high) ≡ true → (low ≤ n) × (n ≤ high)
+ends low high n h =
+    let p : (leb low n ≡ true) × (leb n high ≡ true) = and₂ h in
+    (leb-true low n (p .0), leb-true n high (p .1))
+
+limits : (r : Rule) → validRule r ≡ true → Limits r
+unfolding validRule validHead validWindow isTemplate isActivity latest
+limits r h =
+    let p : (validHead r ≡ true) × (validCondition false (r .condition) ≡ true) × (validCondition true (r .correlation) ≡ true) = and₃ h in
+    let q : (isTemplate (r .code) ≡ true) × (isActivity (r .activation) ≡ true) × (isActivity (r .target) ≡ true) × (validWindow (r .window) ≡ true) = and₄ (p .0) in
+    let w : (leb (r .window .from) 4294967295 ≡ true) × (validEnd (r .window .from) (r .window .until) ≡ true) = and₂ (q .3) in
+    record {
+      code = ends 1 12 (r .code) (q .0);
+      activation = ends 1 64 (r .activation) (q .1);
+      target = ends 1 64 (r .target) (q .2);
+      from = leb-true (r .window .from) 4294967295 (w .0);
+      until = w .1;
+      condition = p .1;
+      correlation = p .2;
+    }
+
+above-end : (a : ℕ) (e : End) → validEnd a e ≡ true → isAbove e a ≡ true
+unfolding validEnd isAbove
+above-end a Never v = refl
+above-end a (At b) v = and₂ v .0
+
+rule-written : (r : Rule) → validRule r ≡ true → ruleOf (ruleFields r) ≡ Of (tidy r)
+unfolding ruleOf ruleFields tidy require _>>_ _>>=_
+rule-written r h =
+    let w = limits r h in
+    rw (number-written 1 12 (r .code) (w .code .0) (w .code .1), number-written 1 64 (r .activation) (w .activation .0) (w .activation .1), number-written 1 64 (r .target) (w .target .0) (w .target .1), number-written 0 4294967295 (r .window .from) (omega arith) (w .from), end-written (r .window .from) (r .window .until) (w .until), condition-written false (r .condition) (w .condition), condition-written true (r .correlation) (w .correlation), above-end (r .window .from) (r .window .until) (w .until))
+
+after-written : (above : List Rule) (r : Rule) → validRule r ≡ true → length above < 16 → ruleAfter above (ruleFields r) ≡ Of (tidy r)
+unfolding ruleAfter inTable require _>>_ _>>=_
+after-written above r h m = rw (rule-written r h, lt-ltb (length above) 16 m)
+
+-- a rule and its tidy form are written alike
+tidy-fields : (r : Rule) → ruleFields (tidy r) ≡ ruleFields r
+unfolding ruleFields tidy conditionText
+tidy-fields r = rw (tidy-comparisons (r .condition), tidy-comparisons (r .correlation))
+
+-- neither tab nor LF stands in a field
+lacks-fields : (b : ℕ) → b < 33 → (r : Rule) → all (lacks b) (ruleFields r) ≡ true
+unfolding ruleFields all
+lacks-fields b h r =
+    let low : b < 45 = omega arith in
+    let mark : eqb 33 b ≡ false = ne-eqb 33 b (λ e. omega arith) in
+    let part : eqb comma b ≡ false = ne-eqb comma b (λ e. omega arith) in
+    rw (lacks-number b (r .code) low, lacks-number b (r .activation) low, lacks-number b (r .target) low, lacks-number b (r .window .from) low, end-lacks b low (r .window .until), condition-lacks b low mark part (r .condition), condition-lacks b low mark part (r .correlation))
+
+parted : (r : Rule) → Parted ruleFields r
+unfolding ruleFields
+parted r = record { some = omega arith; tabs = lacks-fields tab (omega arith) r; ends = lacks-fields LF (omega arith) r }
+
+-- ---- a written text
+
+follow : (above rs : List Rule) → all validRule rs ≡ true → length above + length rs ≤ 16 → Follow ruleAfter ruleFields above (map tidy rs)
+unfolding Follow all
+follow above [] v m = tt
+follow above (r ∷ rs) v m =
+    let p : (validRule r ≡ true) × (all validRule rs ≡ true) = and₂ v in (
+      parted (tidy r),
+      ap (ruleAfter above) (tidy-fields r) ∙ after-written above r (p .0) (omega arith),
+      follow (above ++ tidy r ∷ []) rs (p .1) (rw (length-append above (tidy r ∷ [])) (omega arith)),
+    )
+
+tidy-text : (rs : List Rule) → rulesText (map tidy rs) ≡ rulesText rs
+unfolding rulesText writtenText writtenLine
+tidy-text [] = refl
+tidy-text (r ∷ rs) = rw (tidy-fields r, tidy-text rs)
+
+pub round-trips : RoundTrips
+unfolding rulesTextOf rulesText
+round-trips =
+    record {
+      sound = λ text rs h. (accepted-text text rs h .sound, accepted-text text rs h .tidied);
+      read = λ rs s. ap rulesTextOf (sym (tidy-text rs)) ∙ text-written ruleAfter ruleFields (map tidy rs) (follow [] rs (s .valid) (omega (arith, s .most)));
+      again = λ text rs. text-back ruleAfter ruleFields (λ above fields r h. read-fields fields r (rule-after above fields r h .line)) text rs;
+    }

@@ -1,0 +1,83 @@
+-- `rule::head_of`: the first refusal, or all five values.
+use mathlib.Core.Path.{ap}
+use Rattle.line.specs.Answers.{_>>=_}
+use Rattle.line.specs.Values.{numberRead}
+use Rattle.rule_text.specs.Reads.{byteRead, endRead, headRead, headBy}
+use borrow.Author.Needs.{needs}
+use Rattle.rule_text.proofs.rule.head_of.Statement.{statement}
+use Rattle.rule_text.proofs.rule.head_of.Tie as tie
+
+enum-known-code : tie.Need-enum-known-code
+enum-known-code c = search needs
+
+enum-known-code-2 : tie.Need-enum-known-code-2
+enum-known-code-2 c = search needs
+
+returns : tie.Need-returns
+unfolding headRead headBy byteRead numberRead endRead _>>=_
+returns c = rw (ap byteRead (c .before .code2 .given .1))
+
+enum-known-activation : tie.Need-enum-known-activation
+enum-known-activation c = search needs
+
+enum-known-activation-2 : tie.Need-enum-known-activation-2
+enum-known-activation-2 c = search needs
+
+returns-2 : tie.Need-returns-2
+unfolding headRead headBy byteRead numberRead endRead _>>=_
+returns-2 c = rw (ap byteRead (c .before .before .before .before .code .given .1), ap byteRead (c .before .activation2 .given .1))
+
+enum-known-target : tie.Need-enum-known-target
+enum-known-target c = search needs
+
+enum-known-target-2 : tie.Need-enum-known-target-2
+enum-known-target-2 c = search needs
+
+returns-3 : tie.Need-returns-3
+unfolding headRead headBy byteRead numberRead endRead _>>=_
+returns-3 c = rw (ap byteRead (c .before .before .before .before .before .before .before .code .given .1), ap byteRead (c .before .before .before .before .activation .given .1), ap byteRead (c .before .target2 .given .1))
+
+enum-known-from : tie.Need-enum-known-from
+enum-known-from c = search needs
+
+enum-known-from-2 : tie.Need-enum-known-from-2
+enum-known-from-2 c = search needs
+
+returns-4 : tie.Need-returns-4
+unfolding headRead headBy byteRead numberRead endRead _>>=_
+returns-4 c = rw (ap byteRead (c .before .before .before .before .before .before .before .before .before .before .code .given .1), ap byteRead (c .before .before .before .before .before .before .before .activation .given .1), ap byteRead (c .before .before .before .before .target .given .1), ap numberRead (c .before .from2 .given .1))
+
+enum-known-until : tie.Need-enum-known-until
+enum-known-until c = search needs
+
+enum-known-until-2 : tie.Need-enum-known-until-2
+enum-known-until-2 c = search needs
+
+returns-5 : tie.Need-returns-5
+unfolding headRead headBy byteRead numberRead endRead _>>=_
+returns-5 c = rw (ap byteRead (c .before .before .before .before .before .before .before .before .before .before .before .before .before .code .given .1), ap byteRead (c .before .before .before .before .before .before .before .before .before .before .activation .given .1), ap byteRead (c .before .before .before .before .before .before .before .target .given .1), ap numberRead (c .before .before .before .before .from .given .1), ap endRead (c .before .until .given .1))
+
+returns-6 : tie.Need-returns-6
+unfolding headRead headBy byteRead numberRead endRead _>>=_
+returns-6 c = rw (ap byteRead (c .before .before .before .before .before .before .before .before .before .before .before .before .before .code .given .1), ap byteRead (c .before .before .before .before .before .before .before .before .before .before .activation .given .1), ap byteRead (c .before .before .before .before .before .before .before .target .given .1), ap numberRead (c .before .before .before .before .from .given .1), ap endRead (c .before .until2 .given .1))
+
+pub head-of-spec : {M : Type 1} → statement M
+head-of-spec =
+    tie.close
+    (tie.spec
+    enum-known-code
+    enum-known-code-2
+    returns
+    enum-known-activation
+    enum-known-activation-2
+    returns-2
+    enum-known-target
+    enum-known-target-2
+    returns-3
+    enum-known-from
+    enum-known-from-2
+    returns-4
+    enum-known-until
+    enum-known-until-2
+    returns-5
+    returns-6)

@@ -1,0 +1,95 @@
+-- Rules written as a rules text, and what is proved of writing and reading.
+use mathlib.Core.Path.{_≡_}
+use mathlib.Core.Bool.{true}
+use mathlib.Core.List.{List, [], _∷_, map}
+use Prim.Native.Nat.{ℕ, _+_, _≤_}
+use lib.ListN.{length}
+use Rattle.declare.specs.Lists.{all}
+use Rattle.declare.specs.Conditions.{comparisonsOf}
+use Rattle.declare.specs.Rules.{validRule}
+use Rattle.number.specs.Written.{digitsOf, integerText}
+use Rattle.line.specs.Fields.{joined}
+use Rattle.line.specs.Texts.{All, writtenLine, writtenText}
+use Rattle.rule_text.specs.Types.{Operator, Equal, NotEqual, Less, AtMost, Greater, AtLeast, Reference, Constant, Activation, Comparison, Condition, End, Never, At, Rule}
+use Rattle.rule_text.specs.Conditions.{comma, conditionOf}
+use Rattle.rule_text.specs.Rules.{rulesTextOf}
+
+-- `=` `!` `<` `l` `>` `g`
+unfoldable pub operatorByte : Operator → ℕ
+operatorByte Equal = 61
+operatorByte NotEqual = 33
+operatorByte Less = 60
+operatorByte AtMost = 108
+operatorByte Greater = 62
+operatorByte AtLeast = 103
+
+-- k; or `@`, a digit, `:`, k
+unfoldable pub referenceText : Reference → List ℕ
+referenceText (Constant k) = integerText k
+referenceText (Activation g k) = 64 ∷ (48 + g) ∷ 58 ∷ integerText k
+
+unfoldable pub comparisonText : Comparison → List ℕ
+comparisonText c = (48 + c .reading) ∷ operatorByte (c .operator) ∷ referenceText (c .reference)
+
+-- `-` for no comparisons
+unfoldable pub comparisonsText : List Comparison → List ℕ
+comparisonsText [] = 45 ∷ []
+comparisonsText (c ∷ cs) = joined comma (map comparisonText (c ∷ cs))
+
+unfoldable pub conditionText : Condition → List ℕ
+conditionText c = comparisonsText (comparisonsOf c)
+
+-- `-` for no end
+unfoldable pub endText : End → List ℕ
+endText Never = 45 ∷ []
+endText (At b) = digitsOf b
+
+unfoldable pub ruleFields : Rule → List (List ℕ)
+ruleFields r =
+    digitsOf (r .code)
+    ∷ digitsOf (r .activation)
+    ∷ digitsOf (r .target)
+    ∷ digitsOf (r .window .from)
+    ∷ endText (r .window .until)
+    ∷ conditionText (r .condition)
+    ∷ conditionText (r .correlation)
+    ∷ []
+
+unfoldable pub ruleLineOf : Rule → List ℕ
+ruleLineOf r = writtenLine ruleFields r
+
+unfoldable pub rulesText : List Rule → List ℕ
+rulesText rs = writtenText ruleFields rs
+
+-- ---- slots past a condition's count: a text says nothing of them, and a rule that was read has noComparison there
+
+unfoldable pub tidyCondition : Condition → Condition
+tidyCondition c = conditionOf (comparisonsOf c)
+
+-- the same rule, with noComparison in the slots that are not in use
+unfoldable pub tidy : Rule → Rule
+tidy r =
+    record {
+      code = r .code;
+      activation = r .activation;
+      target = r .target;
+      window = r .window;
+      condition = tidyCondition (r .condition);
+      correlation = tidyCondition (r .correlation);
+    }
+
+-- ---- both ways
+
+-- at most 16 valid rules
+pub record Sound (rs : List Rule) : Type 0 where
+  pub most : length rs ≤ 16
+  pub valid : all validRule rs ≡ true
+
+-- proved in proofs/RoundTrips
+pub record RoundTrips : Type 0 where
+  -- an accepted text gives such rules, with noComparison in the slots that are not in use
+  pub sound : (text : List ℕ) (rs : List Rule) → rulesTextOf text ≡ All rs → Sound rs × (map tidy rs ≡ rs)
+  -- "a written text reads back as the same records": equal in the slots that are in use
+  pub read : (rs : List Rule) → Sound rs → rulesTextOf (rulesText rs) ≡ All (map tidy rs)
+  -- "an accepted text comes out again byte for byte"
+  pub again : (text : List ℕ) (rs : List Rule) → rulesTextOf text ≡ All rs → rulesText rs ≡ text

@@ -1,0 +1,138 @@
+// Conditions: comparisons parted by commas, none of a reading that an earlier one is of.
+ghost use mathlib.Core.Path.{_≡_};
+ghost use mathlib.Core.List.{[], _∷_, _++_};
+ghost use Prim.Native.Nat.{_<_};
+ghost use Rattle.declare.specs.Conditions.{comparisonsOf};
+ghost use Rattle.declare.specs.Rules.{noComparison, noCondition};
+ghost use Rattle.line.specs.Fields.{indexOf, before};
+ghost use Rattle.rule_text.specs.Conditions.{tested, conditionOf, comparisonsField, conditionField};
+ghost use Rattle.rule_text.specs.Reads.{conditionRead};
+use crate::comparison::ComparisonAnswer;
+use crate::comparison::comparison;
+use crate::field::is_dash;
+use declare::Comparison;
+use declare::Condition;
+use declare::Operator;
+use declare::Reference;
+use declare::Refusal;
+
+// What stands in a slot past the count.
+fn no_comparison() -> Comparison
+    ensures { λ r. ⌜ r ≡ noComparison ⌝ }
+{
+    Comparison {
+        reading: 0,
+        operator: Operator::Equal,
+        reference: Reference::Constant(0),
+    }
+}
+
+pub fn no_condition() -> Condition
+    ensures { λ r. ⌜ r ≡ noCondition ⌝ }
+{
+    let none = no_comparison();
+    Condition {
+        count: 0,
+        first: none,
+        second: none,
+        third: none,
+        fourth: none,
+    }
+}
+
+// Whether a comparison is of the reading.
+fn tests(condition: Condition, reading: u8) -> bool
+    ensures { λ r. ⌜ r ≡ tested reading (comparisonsOf condition) ⌝ }
+{
+    let count = condition.count;
+    ((0 < count) & (condition.first.reading == reading))
+        | ((1 < count) & (condition.second.reading == reading))
+        | ((2 < count) & (condition.third.reading == reading))
+        | ((3 < count) & (condition.fourth.reading == reading))
+}
+
+fn slots(
+    count: u8,
+    first: Comparison,
+    second: Comparison,
+    third: Comparison,
+    fourth: Comparison,
+) -> Condition
+    ensures { λ r. ⌜ r ≡ record { count = count; first = first; second = second; third = third; fourth = fourth } ⌝ }
+{
+    Condition {
+        count,
+        first,
+        second,
+        third,
+        fourth,
+    }
+}
+
+// One comparison more.
+fn with(condition: Condition, next: Comparison) -> Condition
+    requires { ⌜ condition .count < 4 ⌝ }
+    ensures { λ r. ⌜ r ≡ conditionOf (comparisonsOf condition ++ (next ∷ [])) ⌝ }
+{
+    let none = no_comparison();
+    let count = condition.count;
+    let first = condition.first;
+    let second = condition.second;
+    let third = condition.third;
+    match count {
+        0 => slots(1, next, none, none, none),
+        1 => slots(2, first, next, none, none),
+        2 => slots(3, first, second, next, none),
+        _ => slots(4, first, second, third, next),
+    }
+}
+
+pub enum ConditionAnswer {
+    Comparisons(Condition),
+    NoComparisons(Refusal),
+}
+
+// A condition that is not `-`. Of four readings none is tested twice, so four slots suffice.
+fn comparisons(field: &[u8], correlation: bool) -> ConditionAnswer
+    ensures { λ r. ⌜ conditionRead r ≡ comparisonsField correlation (now (field .entry)) ⌝ }
+{
+    let mut condition = no_condition();
+    let mut at = 0;
+    while at <= field.len() {
+        match comparison(&field[at..], correlation) {
+            ComparisonAnswer::NotCompared(cause) => return ConditionAnswer::NoComparisons(cause),
+            ComparisonAnswer::Compared(next, length) => {
+                if tests(condition, next.reading) {
+                    return ConditionAnswer::NoComparisons(Refusal::ReadingTwice);
+                }
+                condition = with(condition, next);
+                at = at + length + 1;
+            }
+        }
+    }
+    ConditionAnswer::Comparisons(condition)
+}
+
+pub struct ConditionField {
+    pub answer: ConditionAnswer,
+    pub length: usize,
+}
+
+fn condition(field: &[u8], correlation: bool) -> ConditionAnswer
+    ensures { λ r. ⌜ conditionRead r ≡ conditionField correlation (now (field .entry)) ⌝ }
+{
+    if is_dash(field) {
+        return ConditionAnswer::Comparisons(no_condition());
+    }
+    comparisons(field, correlation)
+}
+
+// The first field as a condition.
+pub fn condition_field(part: &[u8], separator: u8, correlation: bool) -> ConditionField
+    ensures { λ r. ⌜ conditionRead (r .answer) ≡ conditionField correlation (before separator (now (part .entry))) ⌝ }
+    ensures { λ r. ⌜ r .length ≡ indexOf separator (now (part .entry)) ⌝ }
+{
+    let length = line::find(part, separator);
+    let answer = condition(line::part_before(part, length), correlation);
+    ConditionField { answer, length }
+}
