@@ -1,0 +1,151 @@
+-- The claim over a list of takes, and the exactness of early verdicts for the list of taken events.
+use mathlib.Core.Path.{_≡_, refl, sym, ap, subst, _∙_}
+use mathlib.Core.Bool.{Bool, true, not, cond, _&&_}
+use mathlib.Core.List.{List, map}
+use Prim.Native.Nat.{ℕ, _≤_}
+use native.Mathlib.Omega.{arith}
+use lib.Dec.{leb}
+use lib.ListN.{length}
+use Rattle.declare.specs.declared.Event.{Event}
+use Rattle.declare.specs.declared.Rule.{Rule}
+use Rattle.declare.specs.declared.Table.{Table}
+use Rattle.declare.specs.Lists.{all}
+use Rattle.declare.specs.Verdicts.{verdict}
+use Rattle.declare.proofs.Booleans.{and-right}
+use Rattle.line.specs.Texts.{All}
+use Rattle.rule_text.specs.Rules.{rulesTextOf}
+use Rattle.declare.specs.Events.{lastTime}
+use Rattle.declare.specs.Rules.{validRule, rulesOf, validTable}
+use Rattle.declare.specs.Continuations.{horizon}
+use Rattle.declare.specs.Steps.{taken}
+use Rattle.declare.proofs.Exactness.{exactness, idle-elsewhere}
+use Rattle.declare.proofs.Steps.{Cycle, cycle-of-taken}
+use Rattle.declare.specs.Steps.{capacity}
+use Rattle.declare.specs.Refusals.{number}
+use Rattle.judge.specs.declared.Cell.{Cell}
+use Rattle.judge.specs.Cells.{standingIn}
+use Rattle.run.specs.declared.Run.{Run}
+use Rattle.run.specs.declared.Totals.{Totals}
+use Rattle.run.specs.Replies.{Reply, accepted, refused}
+use Rattle.run.specs.Records.{ruleAt, validRun}
+use Rattle.run.specs.Close.{closedRun}
+use Rattle.run.specs.Queries.{oneOf, totalsBy, standingOf, totalsOf}
+use Rattle.run.specs.Takes.{grown, finished, RunOf, Takes}
+use Rattle.run.proofs.Bounds.{rules-within}
+use Rattle.run.proofs.Takes.{rule-valid, takes}
+use Rattle.cycle_text.specs.Written.{Sound as EventsSound, eventsText}
+use Rattle.cycle_text.specs.Reads.{padded}
+use Rattle.cycle_text.proofs.RoundTrips.{round-trips as cycle-trips}
+use Rattle.rule_text.specs.Written.{Sound as RulesSound, rulesText, tidy}
+use Rattle.rule_text.proofs.RoundTrips.{round-trips as rules-trips}
+use Rattle.rule_text.proofs.Tidy.{tidy-verdict}
+use Rattle.notebook.specs.Notebook.{accepted as readAs, notebookOf}
+use Rattle.notebook.proofs.Cells.{same-cells}
+use Rattle.notebook.proofs.Tables.{table-slots, table-valid, rule-count, same-count, tidy-rule}
+use Rattle.notebook.proofs.Grown.{taken-cycle, finished-is-grown, accepted-texts}
+use Rattle.demands.specs.Demand3.{EarlyVerdicts, rewritten, ReadBack, Demand3, EveryTable}
+
+last-time : (es : List Event) → lastTime es ≤ horizon es
+unfolding horizon
+last-time es = omega arith
+
+early : (t : Table) (es : List Event) → length (t .rules) ≡ 16 → validTable t ≡ true → Cycle es → EarlyVerdicts t es
+early t es slots valid cycle =
+    record {
+      exact = λ k i w e. exactness (ruleAt t k) es (horizon es) i (rule-valid t slots valid es cycle k (w .rule-low) (w .rule-high)) (cycle .well) (cycle .falls) (last-time es) (w .position-low) (w .position-high) e;
+      idle = λ k i w. idle-elsewhere (ruleAt t k) es (horizon es) i;
+    }
+
+-- ---- the notebook
+
+-- two valid runs with as many rules and events and the same cells answer alike
+module _ (q r : Run) (valid-q : validRun q ≡ true) (valid-r : validRun r ≡ true) (rules : q .table .count ≡ r .table .count) (events : q .count ≡ r .count) (cells : q .cells ≡ r .cells) where
+  same-standing : (k i : ℕ) → standingOf q k i ≡ standingOf r k i
+  unfolding standingOf
+  same-standing k i = rw (valid-q, valid-r, rules, events, cells)
+
+  same-totals : (k : ℕ) → totalsOf q k ≡ totalsOf r k
+  unfolding totalsOf
+  same-totals k = rw (valid-q, valid-r, rules, events, cells)
+
+sound-events : (es : List Event) → Cycle es → EventsSound es
+unfolding capacity
+sound-events es c = record { most = c .few; formed = c .well; order = c .falls }
+
+sound-rules : (t : Table) → validTable t ≡ true → length (rulesOf t) ≤ 16 → RulesSound (rulesOf t)
+unfolding validTable
+sound-rules t v few = record { most = few; valid = and-right (leb (t .count) 16) (all validRule (rulesOf t)) v }
+
+module _ (t : Table) (offered : List Event) (slots : length (t .rules) ≡ 16) (valid : validTable t ≡ true) where
+  abbrev es : List Event
+  es = taken offered
+
+  abbrev u : Table
+  u = rewritten t
+
+  few : t .count ≤ 16
+  few = rules-within t valid
+
+  events-sound : EventsSound es
+  events-sound = sound-events es (cycle-of-taken offered)
+
+  read-rules : rulesTextOf (rulesText (rulesOf t)) ≡ All (map tidy (rulesOf t))
+  read-rules = rules-trips .read (rulesOf t) (sound-rules t valid (rw (rule-count t slots few) few))
+
+  rules-sound : RulesSound (map tidy (rulesOf t))
+  rules-sound = rules-trips .sound (rulesText (rulesOf t)) (map tidy (rulesOf t)) read-rules .0
+
+  u-slots : length (u .rules) ≡ 16
+  u-slots = table-slots (map tidy (rulesOf t)) (rules-sound .most)
+
+  u-valid : validTable u ≡ true
+  u-valid = table-valid (map tidy (rulesOf t)) rules-sound
+
+  abbrev read : Run
+  read = closedRun (grown u es)
+
+  reply : notebookOf (rulesText (rulesOf t)) (eventsText es) ≡ readAs read
+  reply =
+      accepted-texts (rulesText (rulesOf t)) (eventsText es) (map tidy (rulesOf t)) es read-rules (cycle-trips .read es events-sound)
+      ∙ ap readAs (finished-is-grown u u-slots u-valid es events-sound)
+
+  read-run : RunOf u es true (finished es) read
+  read-run =
+      subst (λ (l : List Event). RunOf u l true (finished l) read) (taken-cycle es events-sound) (takes u es u-slots u-valid .closed-run)
+
+  closed : RunOf t es true (finished es) (closedRun (grown t offered))
+  closed = takes t offered slots valid .closed-run
+
+  count : u .count ≡ t .count
+  count = same-count t slots few
+
+  cells : read .cells ≡ closedRun (grown t offered) .cells
+  cells =
+      same-cells (t .count) (length es) (read .cells) (closedRun (grown t offered) .cells)
+      (record { size = read-run .cells; idle = λ j h e. read-run .idle j h (rw count e) })
+      (record { size = closed .cells; idle = closed .idle })
+      (λ k i a b c d. read-run .standings k i a (rw count b) c d ∙ ap (λ (rule : Rule). verdict rule es i) (tidy-rule t slots few k a b) ∙ tidy-verdict (ruleAt t k) es i ∙ sym (closed .standings k i a b c d))
+
+  tables : read .table .count ≡ closedRun (grown t offered) .table .count
+  tables = ap (λ (x : Table). x .count) (read-run .table) ∙ count ∙ sym (ap (λ (x : Table). x .count) (closed .table))
+
+  counts : read .count ≡ closedRun (grown t offered) .count
+  counts = read-run .count ∙ sym (closed .count)
+
+  notebook : ReadBack t offered read
+  notebook =
+      record {
+        reply = reply;
+        run = read-run;
+        cells = cells;
+        standing = same-standing read (closedRun (grown t offered)) (read-run .valid) (closed .valid) tables counts cells;
+        totals = same-totals read (closedRun (grown t offered)) (read-run .valid) (closed .valid) tables counts cells;
+      }
+
+pub demand3 : EveryTable
+demand3 t offered slots valid =
+    record {
+      takes = takes t offered slots valid;
+      early = early t (taken offered) slots valid (cycle-of-taken offered);
+      notebook = (read t offered slots valid, notebook t offered slots valid);
+    }

@@ -1,0 +1,111 @@
+-- Demand 1: "every call .. gets a result or one of the fourteen numbers", exactly as document 01's table and orders say.
+--
+-- Each call on records has a list of causes, in document 01's order. It is refused with the number of the first that holds, and accepted if
+-- none holds. (The texts have their orders in cycle_text/specs/Cycle and rule_text/specs/Texts.)
+use mathlib.Core.Path.{_≡_}
+use mathlib.Core.Logic.{_↔_, _⊎_}
+use mathlib.Core.Bool.{Bool, true, false, not, _&&_}
+use mathlib.Core.List.{List, [], _∷_}
+use Prim.Native.Nat.{ℕ}
+use lib.Dec.{leb, ltb}
+use Rattle.declare.specs.declared.Event.{Event}
+use Rattle.declare.specs.declared.Table.{Table}
+use Rattle.declare.specs.declared.Refusal.{Refusal}
+use Rattle.declare.specs.declared.Refusal.the-variants.{OutOfRange, TimeFalls, TooMany, WrongPhase, NotFound, InvalidRecord, TallyOverflow}
+use Rattle.declare.specs.Lists.{all}
+use Rattle.declare.specs.Events.{wellFormed}
+use Rattle.declare.specs.Rules.{validTable}
+use Rattle.declare.specs.Continuations.{horizon}
+use Rattle.declare.specs.Steps.{capacity}
+use Rattle.declare.specs.Refusals.{Returned, returned}
+use Rattle.judge.specs.Cells.{standingIn}
+use Rattle.run.specs.declared.Run.{Run}
+use Rattle.run.specs.Replies.{Reply, accepted, refused, runAfter}
+use Rattle.run.specs.Records.{eventsOf, validRun}
+use Rattle.run.specs.Start.{startOf}
+use Rattle.run.specs.Take.{takeOf}
+use Rattle.run.specs.Close.{closeOf}
+use Rattle.run.specs.Queries.{oneOf, standingOf, totalsBy, totalsOf}
+use Rattle.tally.specs.declared.Tally.{Tally}
+use Rattle.tally.specs.declared.Counted.{Counted}
+use Rattle.tally.specs.declared.Answer.{Answer}
+use Rattle.tally.specs.Tally.{fits, absorbOf, answerReply, tallyAfter, Counts, Absorbs}
+
+-- a cause of refusal, and whether it holds
+pub record Cause : Type 0 where
+  pub refusal : Refusal
+  pub holds : Bool
+
+abbrev pub cause : Refusal → Bool → Cause
+cause refusal holds = record { refusal = refusal; holds = holds }
+
+-- n is returned for the first cause that holds: it holds, and no earlier one does
+unfoldable pub First : List Cause → Returned → Type 0
+First [] n = ⊥
+First (c ∷ later) n = ((c .holds ≡ true) × (returned (c .refusal) 0 ≡ n)) ⊎ ((c .holds ≡ false) × First later n)
+
+unfoldable pub noneHolds : List Cause → Bool
+noneHolds causes = all (λ c. not (c .holds)) causes
+
+pub record Refuses {A : Type 0} (causes : List Cause) (reply : Reply A) : Type 0 where
+  pub refuses : (n : Returned) → (reply ≡ refused n) ↔ First causes n
+  pub accepts : ((a : A) × (reply ≡ accepted a)) ↔ (noneHolds causes ≡ true)
+
+-- ---- the orders
+
+-- "start: 11"
+unfoldable pub startCauses : Table → List Cause
+startCauses t = cause InvalidRecord (not (validTable t)) ∷ []
+
+-- "take: 11, 9, 3, 7, 8"
+unfoldable pub takeCauses : Run → Event → List Cause
+takeCauses r e =
+    cause InvalidRecord (not (validRun r))
+    ∷ cause WrongPhase (r .closed)
+    ∷ cause OutOfRange (not (wellFormed e))
+    ∷ cause TimeFalls (ltb (e .time) (horizon (eventsOf r)))
+    ∷ cause TooMany (leb capacity (r .count))
+    ∷ []
+
+-- "close: 11, 9"
+unfoldable pub closeCauses : Run → List Cause
+closeCauses r = cause InvalidRecord (not (validRun r)) ∷ cause WrongPhase (r .closed) ∷ []
+
+-- "standing and totals: 11, 10"
+unfoldable pub standingCauses : Run → ℕ → ℕ → List Cause
+standingCauses r rule position =
+    cause InvalidRecord (not (validRun r))
+    ∷ cause NotFound (not (oneOf (r .table .count) rule && oneOf (r .count) position))
+    ∷ []
+
+unfoldable pub totalsCauses : Run → ℕ → List Cause
+totalsCauses r rule =
+    cause InvalidRecord (not (validRun r)) ∷ cause NotFound (not (oneOf (r .table .count) rule)) ∷ []
+
+-- "tally: 11, 10, 9, 14": absorbing a rule of a run into a tally
+unfoldable pub absorbCauses : Run → ℕ → Tally → List Cause
+absorbCauses r rule t =
+    cause InvalidRecord (not (validRun r))
+    ∷ cause NotFound (not (oneOf (r .table .count) rule))
+    ∷ cause WrongPhase (not (r .closed))
+    ∷ cause TallyOverflow (not (fits t (totalsBy (standingIn (r .cells) rule) (r .count))))
+    ∷ []
+
+-- ---- the demand; proved as `demand1`
+
+pub record Demand1 : Type 0 where
+  pub start : (t : Table) → Refuses (startCauses t) (startOf t)
+  pub take : (r : Run) (e : Event) → Refuses (takeCauses r e) (takeOf r e)
+  pub close : (r : Run) → Refuses (closeCauses r) (closeOf r)
+  pub standing : (r : Run) (rule position : ℕ) → Refuses (standingCauses r rule position) (standingOf r rule position)
+  pub totals : (r : Run) (rule : ℕ) → Refuses (totalsCauses r rule) (totalsOf r rule)
+  pub absorb : (r : Run) (rule : ℕ) (t : Tally) → Refuses (absorbCauses r rule t) (absorbOf r rule t)
+  -- in the code a tally absorbs what was counted of a rule
+  pub absorbs : (r : Run) (rule : ℕ) (c : Counted) (before after : Tally) (a : Answer)
+      → Counts r rule c
+      → Absorbs before c after a
+      → (answerReply after a ≡ absorbOf r rule before) × (after ≡ tallyAfter before (absorbOf r rule before))
+  -- "a refusal alters neither run nor tally"
+  pub take-keeps : (r : Run) (e : Event) (n : Returned) → takeOf r e ≡ refused n → runAfter r (takeOf r e) ≡ r
+  pub close-keeps : (r : Run) (n : Returned) → closeOf r ≡ refused n → runAfter r (closeOf r) ≡ r
+  pub tally-keeps : (r : Run) (rule : ℕ) (t : Tally) (n : Returned) → absorbOf r rule t ≡ refused n → tallyAfter t (absorbOf r rule t) ≡ t

@@ -1,0 +1,1 @@
+// The three demands: definitions and theorems alone, in specs/ and proofs/.

@@ -1,0 +1,126 @@
+-- The run of a finished cycle is the run that is grown from the same table by the same events, and closed.
+--
+-- All events of a cycle are taken. The grown run has the verdicts where a cell is in use, and is idle elsewhere; so has the finished one.
+use mathlib.Core.Path.{_≡_, sym, ap, subst, _∙_}
+use mathlib.Core.Bool.{Bool, true, false, cond, _&&_}
+use mathlib.Core.List.{List, [], _∷_, _++_, append-nil, append-assoc}
+use Prim.Native.Nat.{ℕ, _+_, _-_, _*_, _/_, _%_, _≤_, _<_}
+use native.Mathlib.Omega.{arith}
+use borrow.Author.Tests.{lt-ltb}
+use lib.Dec.{leb, ltb}
+use lib.ListN.{length, getD, take, replicate, length-append, length-replicate}
+use lib.Seq.{take-append-seam}
+use Rattle.declare.specs.declared.Event.{Event}
+use Rattle.declare.specs.declared.Rule.{Rule}
+use Rattle.declare.specs.declared.Table.{Table}
+use Rattle.declare.specs.declared.Standing.{Standing}
+use Rattle.declare.specs.Lists.{all, mapFrom}
+use Rattle.declare.specs.Events.{wellFormed, nonFalling, nonFallingFrom, lastFrom, lastTime, emptySlot}
+use Rattle.declare.specs.Rules.{noRule, validTable}
+use Rattle.declare.specs.Verdicts.{verdict}
+use Rattle.declare.specs.Continuations.{horizon}
+use Rattle.declare.specs.Steps.{capacity, carried, isTaken, takenAfter, taken}
+use Rattle.declare.proofs.Booleans.{and-left, and-right, both₃}
+use Rattle.declare.proofs.Extension.{non-falling-parts}
+use Rattle.declare.proofs.Sweeps.{getD-map-from, length-map-from}
+use Rattle.judge.specs.declared.Cell.{Cell}
+use Rattle.judge.specs.Cells.{idleCell, placeOf, standingIn, inUse, judged, cellAfter, judgedCell, judgedCells}
+use Rattle.run.specs.declared.Run.{Run}
+use Rattle.run.specs.Records.{ruleAt}
+use Rattle.run.specs.Close.{closedRun}
+use Rattle.run.specs.Takes.{grown, RunOf, finished, Takes}
+use Rattle.run.proofs.Lists.{all-parts, replicated}
+use Rattle.run.proofs.Takes.{takes}
+use Rattle.run.proofs.Validity.{idle-cells}
+use Rattle.run.proofs.Places.{judged-standing, judged-kept}
+use Rattle.run.proofs.Bounds.{rules-within}
+use Rattle.cycle_text.specs.Written.{Sound}
+use Rattle.cycle_text.specs.Reads.{padded}
+use Rattle.line.specs.Texts.{All}
+use Rattle.cycle_text.specs.Cycle.{cycleTextOf}
+use Rattle.rule_text.specs.Rules.{rulesTextOf}
+use Rattle.rule_text.specs.Reads.{tableOf}
+use Rattle.notebook.specs.Notebook.{accepted, finishedRun, readWith, finishedOf, notebookOf}
+use Rattle.notebook.proofs.Cells.{Filled, SameStandings, same-cells}
+
+-- ---- all events of a cycle are taken
+
+is-taken : (es : List Event) (e : Event) (more : List Event) → Sound (es ++ e ∷ more) → isTaken es e ≡ true
+unfolding isTaken horizon nonFalling lastTime capacity
+is-taken es e more s =
+    let formed : (wellFormed e && all wellFormed more) ≡ true = unfold all in and-right (all wellFormed es) (all wellFormed (e ∷ more)) (sym (all-parts wellFormed es (e ∷ more)) ∙ s .formed) in
+    let order : (leb (lastFrom 0 es) (e .time) && nonFallingFrom (e .time) more) ≡ true = unfold nonFallingFrom in and-right (nonFallingFrom 0 es) (nonFallingFrom (lastFrom 0 es) (e ∷ more)) (sym (non-falling-parts 0 es (e ∷ more)) ∙ s .order) in
+    both₃ (and-left (wellFormed e) (all wellFormed more) formed) (and-left (leb (lastFrom 0 es) (e .time)) (nonFallingFrom (e .time) more) order) (lt-ltb (length es) 256 (omega (arith, length-append es (e ∷ more), s .most)))
+
+all-taken : (es more : List Event) → Sound (es ++ more) → takenAfter es more ≡ es ++ more
+unfolding takenAfter
+all-taken es [] s = sym (append-nil es)
+all-taken es (e ∷ more) s =
+    ap (λ (b : Bool). takenAfter (cond b (es ++ e ∷ []) es) more) (is-taken es e more s)
+    ∙ all-taken (es ++ e ∷ []) more (rw (append-assoc es (e ∷ []) more) s)
+    ∙ append-assoc es (e ∷ []) more
+
+pub taken-cycle : (es : List Event) → Sound es → taken es ≡ es
+unfolding taken
+taken-cycle es s = all-taken [] es s
+
+-- ---- the two runs
+
+same-run : (q r : Run) → q .closed ≡ r .closed → q .table ≡ r .table → q .count ≡ r .count → q .events ≡ r .events → q .cells ≡ r .cells → q ≡ r
+same-run q r a b c d e =
+    ap (λ (x : Bool). record { closed = x; table = q .table; count = q .count; events = q .events; cells = q .cells }) a
+    ∙ ap (λ (x : Table). record { closed = r .closed; table = x; count = q .count; events = q .events; cells = q .cells }) b
+    ∙ ap (λ (x : ℕ). record { closed = r .closed; table = r .table; count = x; events = q .events; cells = q .cells }) c
+    ∙ ap (λ (x : List Event). record { closed = r .closed; table = r .table; count = r .count; events = x; cells = q .cells }) d
+    ∙ ap (λ (x : List Cell). record { closed = r .closed; table = r .table; count = r .count; events = r .events; cells = x }) e
+
+module _ (t : Table) (slots : length (t .rules) ≡ 16) (valid : validTable t ≡ true) (es : List Event) (sound : Sound es) where
+  abbrev blank : List Cell
+  blank = replicate 4096 idleCell
+
+  blank-size : length blank ≡ 4096
+  blank-size = length-replicate 4096 idleCell
+
+  first : take (length es) (padded es) ≡ es
+  unfolding padded
+  first = take-append-seam es (replicate (256 - length es) emptySlot)
+
+  -- the closed run of these events
+  closed : RunOf t es true (finished es) (closedRun (grown t es))
+  closed =
+      subst (λ (l : List Event). RunOf t l true (finished l) (closedRun (grown t es))) (taken-cycle es sound)
+      (takes t es slots valid .closed-run)
+
+  abbrev cells : List Cell
+  cells = finishedRun t (length es) (padded es) .cells
+
+  filled : Filled (t .count) (length es) cells
+  unfolding finishedRun judgedCells
+  filled =
+      record {
+        size = length-map-from (judgedCell false (t .rules) (t .count) (padded es) (length es) 0) 0 blank ∙ blank-size;
+        idle = λ j h u. judged-kept blank j (rw blank-size h) false (t .rules) (t .count) (padded es) (length es) 0 u ∙ replicated 4096 j idleCell;
+      }
+
+  verdicts : (k i : ℕ) → 1 ≤ k → k ≤ t .count → 1 ≤ i → i ≤ length es → standingIn cells k i ≡ verdict (ruleAt t k) es i
+  unfolding finishedRun ruleAt
+  verdicts k i a b c d =
+      judged-standing blank blank-size k i a (omega (arith, b, rules-within t valid)) c (omega (arith, d, sound .most)) false (t .rules) (t .count) (padded es) (length es) 0 b d
+      ∙ ap (λ (s : Standing). carried s (judged false (getD (t .rules) (k - 1) noRule) (take (length es) (padded es)) 0 i)) (idle-cells 4096 k i)
+      ∙ unfold carried judged in ap (λ (l : List Event). verdict (getD (t .rules) (k - 1) noRule) l i) first
+
+  same : cells ≡ closedRun (grown t es) .cells
+  same =
+      same-cells (t .count) (length es) cells (closedRun (grown t es) .cells) filled
+      (record { size = closed .cells; idle = closed .idle })
+      (λ k i a b c d. verdicts k i a b c d ∙ sym (closed .standings k i a b c d))
+
+  pub finished-is-grown : finishedRun t (length es) (padded es) ≡ closedRun (grown t es)
+  unfolding finishedRun padded capacity
+  finished-is-grown =
+      same-run (finishedRun t (length es) (padded es)) (closedRun (grown t es)) (sym (closed .phase)) (sym (closed .table)) (sym (closed .count)) (sym (closed .events)) same
+
+-- two texts that are accepted
+pub accepted-texts : (rulesText cycleText : List ℕ) (rules : List Rule) (es : List Event) → rulesTextOf rulesText ≡ All rules → cycleTextOf cycleText ≡ All es → notebookOf rulesText cycleText ≡ accepted (finishedRun (tableOf rules) (length es) (padded es))
+unfolding notebookOf finishedOf readWith
+accepted-texts rulesText cycleText rules es p q = rw (p, q)

@@ -1,0 +1,93 @@
+// The notebook: a finished cycle, read from its two texts.
+ghost use mathlib.Core.Path.{_≡_};
+ghost use Rattle.run.specs.Start.{started};
+ghost use Rattle.notebook.specs.Types.{Refused};
+ghost use Rattle.cycle_text.specs.Cycle.{cycleTextOf};
+ghost use Rattle.notebook.specs.Notebook.{finishedRun, readWith, notebookOf, notebookReply, notebookRun, Reads};
+use cycle_text::read_cycle;
+use declare::Event;
+use declare::Refusal;
+use declare::Standing;
+use declare::Table;
+use judge::Cell;
+use judge::cells::judge_cells;
+use rule_text::read_rules;
+use run::Run;
+
+pub enum Text {
+    Rules,
+    Cycle,
+}
+
+// The run is closed; or one of the texts is refused, with the cause and the line.
+pub enum Outcome {
+    Closed,
+    Refused(Text, Refusal, usize),
+}
+
+pub struct Notebook {
+    pub outcome: Outcome,
+    pub run: Run,
+}
+
+// Each position is judged once, on the whole cycle. The horizon is not looked at: nothing more comes.
+fn finished_run(table: Table, count: usize, events: [Event; 256]) -> Run
+    ensures { λ r. ⌜ r ≡ finishedRun table count events ⌝ }
+{
+    let idle = Cell {
+        standing: Standing::Idle,
+    };
+    let cells = [idle; 4096];
+    let rules = table.rules;
+    let judged = judge_cells(false, rules, table.count, events, count, 0, cells);
+    Run {
+        closed: true,
+        table: table,
+        count: count,
+        events: events,
+        cells: judged,
+    }
+}
+
+fn refused(table: Table, text: Text, cause: Refusal, line: usize) -> Notebook
+    ensures { λ r. ⌜ (r .outcome ≡ Refused text cause line) × (r .run ≡ started table) ⌝ }
+{
+    let start = Run::start(table);
+    let run = start.run;
+    Notebook {
+        outcome: Outcome::Refused(text, cause, line),
+        run: run,
+    }
+}
+
+// The closed run of a table and a cycle text, or the first refusal of the text.
+fn read_with(table: Table, cycle: &[u8]) -> Notebook
+    ensures { λ r. ⌜ Reads (readWith table (cycleTextOf (now (cycle .entry)))) table r ⌝ }
+{
+    let read = read_cycle(cycle);
+    let outcome = read.outcome;
+    match outcome {
+        line::Outcome::Refused(cause, line) => refused(table, Text::Cycle, cause, line),
+        line::Outcome::Accepted => {
+            let events = read.events;
+            Notebook {
+                outcome: Outcome::Closed,
+                run: finished_run(table, read.count, events),
+            }
+        }
+    }
+}
+
+// The closed run of two texts. Refused with the first refusal of the rules text, else of the cycle text.
+pub fn read_notebook(rules: &[u8], cycle: &[u8]) -> Notebook
+    ensures { λ r. ⌜ notebookReply r ≡ notebookOf (now (rules .entry)) (now (cycle .entry)) ⌝ }
+    ensures { λ r. ⌜ r .run ≡ notebookRun (now (rules .entry)) (now (cycle .entry)) ⌝ }
+{
+    let read = read_rules(rules);
+    let table = read.table;
+    let outcome = read.outcome;
+    match outcome {
+        line::Outcome::Refused(cause, line) => refused(table, Text::Rules, cause, line),
+        line::Outcome::Accepted => read_with(table, cycle),
+    }
+}
