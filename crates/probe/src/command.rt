@@ -14,6 +14,14 @@ fn joined(a: u8, b: u8, c: u8, d: u8) -> u32 {
     (wide(a) + wide(b) * 256 + wide(c) * 65536 + wide(d) * 16777216) as u32
 }
 
+// The four bytes from `at` on, 0 past the end.
+pub fn bits(command: [u8; 32], at: usize) -> u32 {
+    if 28 < at {
+        return 0;
+    }
+    joined(command[at], command[at + 1], command[at + 2], command[at + 3])
+}
+
 // p
 pub fn low_half(command: [u8; 32]) -> u32 {
     joined(command[8], command[9], command[10], command[11])

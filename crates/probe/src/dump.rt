@@ -18,7 +18,7 @@ use declare::Rule;
 use judge::Cell;
 use run::Run;
 
-fn least(x: usize, y: usize) -> usize
+pub fn least(x: usize, y: usize) -> usize
     ensures { λ r. ⌜ (r ≤ x) × (r ≤ y) ⌝ }
 {
     if x <= y { x } else { y }

@@ -1,6 +1,7 @@
 // A program for tests: commands on standard input, answers on standard output. tests/PROBE.md has the format.
 use declare::Table;
 use run::Run;
+use tally::Tally;
 
 mod command; // command.rt: the fields of a command
 mod bytes; // bytes.rt: numbers as bytes
@@ -9,53 +10,84 @@ mod record; // record.rt: single fields of the run
 mod answer; // answer.rt: answers of 16 bytes
 mod calls; // calls.rt: the library's calls
 mod dump; // dump.rt: standings, and the whole run
+mod text; // text.rt: texts that follow a command
+mod day; // day.rt: the tally
 
 pub struct State {
     pub table: Table,
     pub run: Run,
+    pub tally: Tally,
+}
+
+// Commands that change the table under construction.
+fn change_table(state: State, command: [u8; 32]) -> State {
+    let table = state.table;
+    let run = state.run;
+    let next = if command[0] == 82 {
+        text::rules(table, command)
+    } else {
+        table::changed(table, command)
+    };
+    let tally = state.tally;
+    State {
+        table: next,
+        run: run,
+        tally: tally,
+    }
+}
+
+// Commands that change the run, or ask it.
+fn change_run(table: Table, run: Run, command: [u8; 32]) -> Run {
+    let letter = command[0];
+    match letter {
+        // T
+        84 => record::with_table(run, table),
+        // C F E S
+        67 | 70 | 69 | 83 => record::changed(run, command),
+        // s
+        115 => calls::start(run, table),
+        // e x g o
+        101 | 120 | 103 | 111 => calls::call(run, command),
+        // Y
+        89 => text::cycle(run, command),
+        // N
+        78 => text::notebook(run, command),
+        // d
+        100 => dump::standings(run),
+        // D
+        68 => dump::whole(run),
+        _ => run,
+    }
 }
 
 fn obey(state: State, command: [u8; 32]) -> State {
     let letter = command[0];
-    let table = state.table;
-    let run = state.run;
     match letter {
-        // t r n c
-        116 | 114 | 110 | 99 => State {
-            table: table::changed(table, command),
-            run: run,
+        // t r n c R
+        116 | 114 | 110 | 99 | 82 => change_table(state, command),
+        // A b B
+        65 | 98 | 66 => {
+            let table = state.table;
+            let run = state.run;
+            let tally = state.tally;
+            let next = day::changed(tally, run, command);
+            State {
+                table: table,
+                run: run,
+                tally: next,
+            }
         },
-        // T
-        84 => State {
-            table: table,
-            run: record::with_table(run, table),
+        _ => {
+            let table = state.table;
+            let run = state.run;
+            let tally = state.tally;
+            let next = change_run(table, run, command);
+            State {
+                table: table,
+                run: next,
+                tally: tally,
+            }
         },
-        // C F E S
-        67 | 70 | 69 | 83 => State {
-            table: table,
-            run: record::changed(run, command),
-        },
-        // s
-        115 => State {
-            table: table,
-            run: calls::start(run, table),
-        },
-        // e x g o
-        101 | 120 | 103 | 111 => State {
-            table: table,
-            run: calls::call(run, command),
-        },
-        // d
-        100 => State {
-            table: table,
-            run: dump::standings(run),
-        },
-        // D
-        68 => State {
-            table: table,
-            run: dump::whole(run),
-        },
-        _ => state,
     }
 }
 
@@ -63,6 +95,7 @@ fn main() {
     let mut state = State {
         table: table::empty(),
         run: record::empty(),
+        tally: day::empty(),
     };
     for _ in 0..1000000000000u64 {
         let mut command = [0u8; 32];

@@ -16,6 +16,9 @@ empty-requires c κs = search needs
 empty-requires-2 : tie.Need-empty-requires-2 Inv-loop μ-loop
 empty-requires-2 c κs = search needs
 
+empty-requires-3 : tie.Need-empty-requires-3 Inv-loop μ-loop
+empty-requires-3 c κs = search needs
+
 loop-holds : tie.Need-loop-holds Inv-loop μ-loop
 loop-holds c = search needs
 
@@ -51,6 +54,7 @@ main-spec =
     μ-loop
     empty-requires
     empty-requires-2
+    empty-requires-3
     loop-holds
     slice-aggregate-read-full
     read-full-requires

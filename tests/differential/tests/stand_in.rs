@@ -1,0 +1,111 @@
+//! The comparison itself: it agrees with the evaluator behind `probe`'s
+//! commands, and each kind of cases finds the mistakes that are put there.
+
+use differential::cases::{causes, notebook, records, running, tally, texts};
+use differential::compare::compare;
+use differential::script::Case;
+use differential::stand_in::{Mistake, StandIn};
+use std::collections::BTreeSet;
+
+fn running_cases() -> Vec<Case> {
+    (1..=30).map(running::case).collect()
+}
+
+fn record_cases() -> Vec<Case> {
+    (1..=40).map(records::case).collect()
+}
+
+fn stale_cases() -> Vec<Case> {
+    (1..=20).map(records::stale_case).collect()
+}
+
+fn cause_cases() -> Vec<Case> {
+    let causes = (0..).zip(causes::causes(true)).step_by(9);
+    let causes = causes.map(|(number, (_, run))| records::cause_case(number, run));
+    let allowed = (0..).zip(causes::allowed(false)).step_by(9);
+    let allowed = allowed.map(|(number, (_, run))| records::allowed_case(number, run));
+    causes.chain(allowed).collect()
+}
+
+fn rules_cases() -> Vec<Case> {
+    (1..=100).map(texts::rules_case).collect()
+}
+
+fn cycle_cases() -> Vec<Case> {
+    (1..=100).map(texts::cycle_case).collect()
+}
+
+fn pair_cases() -> Vec<Case> {
+    (1..=60).map(texts::pair_case).collect()
+}
+
+fn notebook_cases() -> Vec<Case> {
+    (1..=20).map(notebook::case).collect()
+}
+
+fn tally_cases() -> Vec<Case> {
+    (1..=100).map(tally::case).collect()
+}
+
+#[test]
+fn the_evaluator_agrees_with_itself() {
+    let program = StandIn {
+        mistake: Mistake::None,
+    };
+    let cases = [
+        running_cases(),
+        record_cases(),
+        stale_cases(),
+        cause_cases(),
+        rules_cases(),
+        cycle_cases(),
+        pair_cases(),
+        notebook_cases(),
+        tally_cases(),
+    ];
+    let counts = compare(&program, cases.concat());
+    let counts = counts.unwrap_or_else(|difference| panic!("{difference}"));
+    assert!(counts.cases > 500, "{counts}");
+    for letter in ['s', 'e', 'x', 'g', 'o', 'b', 'R', 'Y', 'N'] {
+        let accepted = counts.answered(letter, 0);
+        assert!(accepted > 0 && counts.calls(letter) > accepted, "{letter}");
+    }
+}
+
+/// A mistake, and the cases that have to find it.
+type Finder = (Mistake, fn() -> Vec<Case>);
+
+const FINDERS: [Finder; 17] = [
+    (Mistake::NeverOpen, running_cases),
+    (Mistake::JudgesAnew, stale_cases),
+    (Mistake::ClearsRows, record_cases),
+    (Mistake::KeepsRefused, running_cases),
+    (Mistake::ClosesToViolated, running_cases),
+    (Mistake::ClosesToViolated, stale_cases),
+    (Mistake::TotalsWithoutOpen, running_cases),
+    (Mistake::CutsNumbers, cause_cases),
+    (Mistake::ClosedFirst, cause_cases),
+    (Mistake::LinesFromZero, rules_cases),
+    (Mistake::LinesFromZero, pair_cases),
+    (Mistake::DropsComparisons, rules_cases),
+    (Mistake::ReadsBlanksAsZero, cycle_cases),
+    (Mistake::NamesTheNext, pair_cases),
+    (Mistake::NamesTheNext, notebook_cases),
+    (Mistake::CountsRefused, tally_cases),
+    (Mistake::EndsEarly, running_cases),
+];
+
+#[test]
+fn every_mistake_is_found() {
+    for (mistake, cases) in FINDERS {
+        let found = compare(&StandIn { mistake }, cases());
+        let difference = found.err();
+        let difference = difference.unwrap_or_else(|| panic!("{mistake:?} is not found"));
+        let shown = difference.to_string();
+        let head = format!("{}, seed {}: ", difference.kind, difference.seed);
+        assert!(shown.starts_with(&head), "{shown}");
+        assert!(shown.contains("\nexpected: ") && shown.contains("\nfound: "));
+    }
+    let tried: BTreeSet<String> = FINDERS.iter().map(|(m, _)| format!("{m:?}")).collect();
+    assert_eq!(tried.len(), Mistake::ALL.len());
+}
