@@ -1,0 +1,174 @@
+//! The standings of a cycle's positions under its rules.
+//! The algorithm of the library: the rule is bound to the activation once, its reach is one interval, the first event that fits decides.
+use crate::types::*;
+
+#[derive(Clone, Copy)]
+struct Test {
+    reading: u8,
+    operator: Operator,
+    against: Option<i64>,
+}
+
+struct Bound {
+    target: u8,
+    time: u32,
+    window: Window,
+    count: u8,
+    tests: [Test; 4],
+}
+
+impl Bound {
+    fn tests(&self) -> &[Test] {
+        &self.tests[..self.count as usize]
+    }
+}
+
+fn reading_of(e: &Event, k: u8) -> Option<i64> {
+    let at = (k as usize).wrapping_sub(1);
+    match e.readings.get(at) {
+        Some(Reading::Value(v)) => Some(*v as i64),
+        _ => None,
+    }
+}
+
+fn compare(operator: Operator, x: i64, y: i64) -> bool {
+    match operator {
+        Operator::Equal => x == y,
+        Operator::NotEqual => x != y,
+        Operator::Less => x < y,
+        Operator::AtMost => x <= y,
+        Operator::Greater => x > y,
+        Operator::AtLeast => x >= y,
+    }
+}
+
+fn holds(operator: Operator, x: Option<i64>, y: Option<i64>) -> bool {
+    match (x, y) {
+        (Some(v), Some(w)) => compare(operator, v, w),
+        _ => false,
+    }
+}
+
+fn reference_of(a: &Event, reference: Reference) -> Option<i64> {
+    match reference {
+        Reference::Constant(k) => Some(k as i64),
+        Reference::Activation(g, k) => reading_of(a, g).map(|v| v + k as i64),
+    }
+}
+
+fn test_of(a: &Event, c: &Comparison) -> Test {
+    Test { reading: c.reading, operator: c.operator, against: reference_of(a, c.reference) }
+}
+
+fn passes(e: &Event, t: &Test) -> bool {
+    holds(t.operator, reading_of(e, t.reading), t.against)
+}
+
+fn is_activation(rule: &Rule, e: &Event) -> bool {
+    e.activity == rule.activation && rule.condition.used().iter().all(|c| passes(e, &test_of(e, c)))
+}
+
+fn within(window: &Window, d: u32) -> bool {
+    window.from <= d && window.until.map_or(true, |b| d < b)
+}
+
+fn bound_of(rule: &Rule, a: &Event) -> Bound {
+    let c = &rule.correlation;
+    Bound {
+        target: rule.target,
+        time: a.time,
+        window: rule.window,
+        count: c.count,
+        tests: [0, 1, 2, 3].map(|k| test_of(a, &c.comparisons[k])),
+    }
+}
+
+fn fits(b: &Bound, e: &Event) -> bool {
+    e.activity == b.target && within(&b.window, b.time.abs_diff(e.time)) && b.tests().iter().all(|t| passes(e, t))
+}
+
+fn meets(tests: &[Test], k: u8, v: Option<i64>) -> bool {
+    v.map_or(true, |x| (-2147483648..=2147483647).contains(&x))
+        && tests.iter().all(|t| t.reading != k || holds(t.operator, v, t.against))
+}
+
+fn edge(t: &Test) -> Option<i64> {
+    let after = |y: i64| if y < 2147483647 { y + 1 } else { y };
+    t.against.map(|y| match t.operator {
+        Operator::Equal | Operator::AtLeast => y,
+        Operator::NotEqual | Operator::Greater => after(y),
+        Operator::Less | Operator::AtMost => -2147483648,
+    })
+}
+
+fn some_meets(tests: &[Test], k: u8) -> bool {
+    meets(tests, k, None) || meets(tests, k, Some(-2147483648)) || tests.iter().any(|t| meets(tests, k, edge(t)))
+}
+
+fn satisfiable(tests: &[Test]) -> bool {
+    tests.is_empty() || (1..=4).all(|k| some_meets(tests, k))
+}
+
+fn has_room(window: &Window, time: u32, horizon: u32) -> bool {
+    match time.checked_add(window.from) {
+        None => false,
+        Some(opening) if horizon < opening => within(window, window.from),
+        Some(_) => within(window, horizon - time),
+    }
+}
+
+fn can_suit(b: &Bound, horizon: u32) -> bool {
+    has_room(&b.window, b.time, horizon) && satisfiable(b.tests())
+}
+
+/// The places from the first, up to but without the second; past the last event if one may still come.
+fn span_of(code: u8, flags: &[bool], p: usize) -> (usize, usize) {
+    let n = flags.len();
+    match code {
+        2 | 9 => (p, n + 1),
+        3 => (p + 1, flags[p + 1..].iter().position(|&f| f).map_or(n + 1, |d| p + d + 2)),
+        4 | 11 => (p + 1, p + 2),
+        5 | 10 => (0, p + 1),
+        6 => (flags[..p].iter().rposition(|&f| f).unwrap_or(0), p),
+        7 | 12 => (p.saturating_sub(1), p),
+        _ => (0, n + 1),
+    }
+}
+
+fn decide(code: u8, target: u16) -> Standing {
+    match (code >= 8, target) {
+        (false, 0) => Standing::Violated(0),
+        (false, j) => Standing::Fulfilled(j),
+        (true, 0) => Standing::Fulfilled(0),
+        (true, j) => Standing::Violated(j),
+    }
+}
+
+fn judge_activation(running: bool, rule: &Rule, events: &[Event], flags: &[bool], horizon: u32, p: usize) -> Standing {
+    let n = events.len();
+    let (start, stop) = span_of(rule.code, flags, p);
+    let bound = bound_of(rule, &events[p]);
+    let end = stop.min(n);
+    let found = (start..end).find(|&q| fits(&bound, &events[q]));
+    match found {
+        Some(q) => decide(rule.code, (q + 1) as u16),
+        None if running && stop > n && can_suit(&bound, horizon) => Standing::Open,
+        None => decide(rule.code, 0),
+    }
+}
+
+/// The rows of the rules: a decided standing is carried over, any other follows from the events.
+pub fn judge_cells(running: bool, rules: &[Rule], events: &[Event], horizon: u32, cells: &mut [Standing; 4096]) {
+    let mut flags = [false; 256];
+    let flags = &mut flags[..events.len()];
+    for (rule, row) in rules.iter().zip(cells.chunks_exact_mut(256)) {
+        for (f, e) in flags.iter_mut().zip(events) {
+            *f = is_activation(rule, e);
+        }
+        for (p, c) in row[..events.len()].iter_mut().enumerate() {
+            if !matches!(c, Standing::Fulfilled(_) | Standing::Violated(_)) {
+                *c = if flags[p] { judge_activation(running, rule, events, flags, horizon, p) } else { Standing::Idle };
+            }
+        }
+    }
+}
