@@ -62,6 +62,16 @@ fn taken(table: &Table, events: &[Event]) -> Run {
     run
 }
 
+/// The same run, judged at once.
+fn judged(table: &Table, events: &[Event]) -> Run {
+    let mut run = Run::start(*table).unwrap();
+    run.count = events.len();
+    run.events[..events.len()].copy_from_slice(events);
+    let horizon = events.last().map_or(0, |e| e.time);
+    judge::judge_cells(true, &table.rules[..table.count], events, horizon, &mut run.cells);
+    run
+}
+
 /// Each turn begins with a copy of the run, so that the same event can be taken again; `k` makes the copy only.
 fn takes(letter: u8, run: &Run, event: Event, turns: usize) -> u64 {
     let mut sum = 0;
@@ -127,10 +137,10 @@ fn cycle_calls(letter: u8, turns: usize, rules: &[u8], cycle: &[u8]) -> u64 {
     let events = &read.events[..read.count];
     let (last, before) = events.split_last().unwrap();
     match letter {
-        b't' | b'k' => takes(letter, &taken(&table, before), *last, turns),
-        b'x' => takes(letter, &taken(&table, events), *last, turns),
+        b't' | b'k' => takes(letter, &judged(&table, before), *last, turns),
+        b'x' => takes(letter, &judged(&table, events), *last, turns),
         b'c' => cycles(&table, events, turns),
-        _ => asked(letter, &taken(&table, events), turns),
+        _ => asked(letter, &judged(&table, events), turns),
     }
 }
 

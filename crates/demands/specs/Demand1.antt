@@ -1,7 +1,7 @@
 -- Demand 1: "every call .. gets a result or one of the fourteen numbers", exactly as document 01's table and orders say.
 --
 -- Each call on records has a list of causes, in document 01's order. It is refused with the number of the first that holds, and accepted if
--- none holds. (The texts have their orders in cycle_text/specs/Cycle and rule_text/specs/Texts.)
+-- none holds. (The texts have their orders in cycle_text/specs/Cycle and rule_text/specs/Rules.)
 use mathlib.Core.Path.{_≡_}
 use mathlib.Core.Logic.{_↔_, _⊎_}
 use mathlib.Core.Bool.{Bool, true, false, not, _&&_}

@@ -19,7 +19,12 @@ pub fn bits(command: [u8; 32], at: usize) -> u32 {
     if 28 < at {
         return 0;
     }
-    joined(command[at], command[at + 1], command[at + 2], command[at + 3])
+    joined(
+        command[at],
+        command[at + 1],
+        command[at + 2],
+        command[at + 3],
+    )
 }
 
 // p

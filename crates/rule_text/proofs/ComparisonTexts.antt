@@ -1,13 +1,13 @@
 -- A comparison that is written reads back as itself; one that was read is written as the same bytes, and is within its limits.
 use mathlib.Core.Path.{_≡_, refl, sym, _∙_, ap}
-use mathlib.Core.Bool.{Bool, true, false, cond, _&&_, false≢true}
+use mathlib.Core.Bool.{Bool, true, false, cond, _&&_}
 use mathlib.Core.List.{List, [], _∷_}
-use Prim.Native.Nat.{ℕ, suc, _+_, _-_, _≤_}
+use Prim.Native.Nat.{ℕ, _+_, _-_}
 use native.Mathlib.Omega.{arith}
 use borrow.Author.Tests.{eqb-true, ne-eqb, leb-true, le-leb}
 use lib.Dec.{leb, eqb}
 use lib.IntN.{ℤ, pos, negsuc}
-use lib.ListN.{getD, drop}
+use lib.ListN.{getD}
 use Rattle.declare.specs.declared.Operand.the-variants.{Exact}
 use Rattle.declare.specs.Events.{inRange, least, greatest}
 use Rattle.declare.specs.Rules.{isReading, validReference, validComparison}
@@ -17,9 +17,9 @@ use Rattle.number.specs.Number.{digit, digits, inSignedRange, integerOf}
 use Rattle.number.specs.Written.{digitsOf, integerText}
 use Rattle.number.proofs.Digits.{digit-high}
 use Rattle.number.proofs.Written.{written-digits, read-integer, integer-read}
-use Rattle.line.specs.Answers.{Answer, Of, No, _>>=_, _>>_, require}
+use Rattle.line.specs.Answers.{Answer, Of, _>>=_, _>>_, require}
 use Rattle.line.proofs.Answers.{no-of, of-of, through, required}
-use Rattle.rule_text.specs.Types.{Operator, Equal, NotEqual, Less, AtMost, Greater, AtLeast, Reference, Constant, Activation, Comparison, Fault, Range, IntegerAnswer, Integer, NoInteger}
+use Rattle.rule_text.specs.Types.{Operator, Equal, NotEqual, Less, AtMost, Greater, AtLeast, Reference, Constant, Activation, Comparison, Range, IntegerAnswer, Integer, NoInteger}
 use Rattle.rule_text.specs.Comparisons.{readingDigit, digitOf, operatorOf, kAnswer, kField, constantField, activationField, referenceField, comparisonField}
 use Rattle.rule_text.specs.Written.{operatorByte, referenceText, comparisonText}
 

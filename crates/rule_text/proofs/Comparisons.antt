@@ -1,18 +1,16 @@
 -- Comparisons at the head of a part of a condition. The code looks at the part's own bytes, the definitions at those before the comma: as no byte of the
 -- form is a comma, both come to the same, byte by byte.
 use mathlib.Core.Path.{_≡_, refl, sym, _∙_, ap}
-use mathlib.Core.Bool.{Bool, true, false, cond, _&&_, false≢true}
+use mathlib.Core.Bool.{Bool, true, false}
 use mathlib.Core.List.{List, [], _∷_}
 use Prim.Native.Nat.{ℕ, suc, _+_, _-_, _≤_}
 use native.Mathlib.Omega.{arith}
-use native.Mathlib.Numerals.{add-one}
-use borrow.Author.Tests.{eqb-true, eq-eqb, ne-eqb, leb-true, le-leb}
+use borrow.Author.Tests.{eqb-true, leb-true}
 use lib.Dec.{leb, eqb}
 use lib.IntN.{ℤ}
 use lib.ListN.{length, getD, drop}
 use lib.Seq.{getD-drop, drop-drop}
-use Rattle.declare.specs.Rules.{isReading}
-use Rattle.declare.proofs.Booleans.{and-left, and-right, both}
+use Rattle.declare.proofs.Booleans.{and-left}
 use Rattle.line.specs.Fields.{indexOf, before}
 use Rattle.line.specs.Answers.{Answer, Of, No, _>>=_, _>>_, require}
 use Rattle.line.proofs.Fields.{index-le}

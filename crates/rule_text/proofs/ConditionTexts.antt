@@ -1,24 +1,24 @@
 -- A condition that is written reads back with the same comparisons; one that was read is written as the same bytes, is within its limits, and
 -- has noComparison in the slots that are not in use. By the laws of one comparison, comparison by comparison.
 use mathlib.Core.Path.{_≡_, refl, sym, _∙_, ap}
-use mathlib.Core.Bool.{Bool, true, false, not, cond, _&&_, _||_, false≢true, true≢false}
+use mathlib.Core.Bool.{Bool, true, false, not, cond, _&&_, and-false}
 use mathlib.Core.List.{List, [], _∷_, _++_, map, append-nil, append-assoc}
 use Prim.Native.Nat.{ℕ, _+_, _≤_, _<_}
 use native.Mathlib.Omega.{arith}
-use borrow.Author.Tests.{eqb-true, ne-eqb, le-leb}
+use borrow.Author.Tests.{ne-eqb, le-leb, not-true}
 use lib.Dec.{leb, eqb}
-use lib.ListN.{length, take}
+use lib.ListN.{length}
 use Rattle.declare.specs.declared.Reading.the-variants.{Value}
 use Rattle.declare.specs.Lists.{all, any}
 use Rattle.declare.specs.Conditions.{comparisonsOf}
-use Rattle.declare.specs.Rules.{isReading, noneTwice, noCondition, noComparison, validComparison, validCondition}
-use Rattle.declare.proofs.Booleans.{and-left, and-right, both, both₃, and₃, not-false, all-append}
+use Rattle.declare.specs.Rules.{noneTwice, noCondition, validComparison, validCondition}
+use Rattle.declare.proofs.Booleans.{and-left, and-right, both, both₃, and₃, all-append}
 use Rattle.number.specs.Number.{dash, none}
 use Rattle.number.specs.Written.{integerText}
-use Rattle.line.specs.Fields.{split, joined, eachAfter}
-use Rattle.line.specs.Answers.{Answer, Of, No, _>>=_, _>>_, require}
+use Rattle.line.specs.Fields.{split, joined}
+use Rattle.line.specs.Answers.{Of, _>>=_, _>>_, require}
 use Rattle.line.specs.Values.{readingText}
-use Rattle.line.proofs.Answers.{no-of, of-of, through, required}
+use Rattle.line.proofs.Answers.{of-of, through, required}
 use Rattle.line.proofs.Fields.{parts}
 use Rattle.line.proofs.Joined.{lacks, split-joined, lacks-joined, joined-split}
 use Rattle.line.proofs.Values.{dash-text, lacks-reading}
@@ -29,92 +29,87 @@ use Rattle.rule_text.specs.Written.{operatorByte, referenceText, compari
 use Rattle.rule_text.proofs.ComparisonTexts.{comparison-written, comparison-read, comparison-reading}
 use Rattle.rule_text.proofs.Conditions.{Distinct, at-most-four, distinct-none, distinct-more, comparisons-slots}
 
--- ---- bytes that do not stand in a comparison: below `-`, and not `!`
+-- ---- bytes that do not stand in a condition
 
 lacks-more : (b x : ℕ) (s : List ℕ) → eqb x b ≡ false → lacks b s ≡ true → lacks b (x ∷ s) ≡ true
 unfolding lacks
 lacks-more b x s e h = rw e h
 
+-- a byte below `-` that is not `!`
 module _ (b : ℕ) (low : b < 45) (mark : eqb 33 b ≡ false) where
-  above : (x : ℕ) → 45 ≤ x → eqb x b ≡ false
-  above x h = ne-eqb x b (λ e. omega arith)
+  other : (x : ℕ) → 45 ≤ x → eqb x b ≡ false
+  other x h = ne-eqb x b (λ e. omega arith)
 
   operator-lacks : (o : Operator) → eqb (operatorByte o) b ≡ false
   unfolding operatorByte
-  operator-lacks Equal = above 61 (omega arith)
+  operator-lacks Equal = other 61 (omega arith)
   operator-lacks NotEqual = mark
-  operator-lacks Less = above 60 (omega arith)
-  operator-lacks AtMost = above 108 (omega arith)
-  operator-lacks Greater = above 62 (omega arith)
-  operator-lacks AtLeast = above 103 (omega arith)
+  operator-lacks Less = other 60 (omega arith)
+  operator-lacks AtMost = other 108 (omega arith)
+  operator-lacks Greater = other 62 (omega arith)
+  operator-lacks AtLeast = other 103 (omega arith)
 
-  reference-lacks : (x : Reference) → lacks b (referenceText x) ≡ true
+  k-lacks : (x : Reference) → lacks b (referenceText x) ≡ true
   unfolding referenceText readingText
-  reference-lacks (Constant k) = lacks-reading b (Value k) low
-  reference-lacks (Activation g k) =
-      lacks-more b 64 ((48 + g) ∷ 58 ∷ integerText k) (above 64 (omega arith))
-      (lacks-more b (48 + g) (58 ∷ integerText k) (above (48 + g) (omega arith))
-      (lacks-more b 58 (integerText k) (above 58 (omega arith)) (lacks-reading b (Value k) low)))
+  k-lacks (Constant k) = lacks-reading b (Value k) low
+  k-lacks (Activation g k) =
+      lacks-more b 64 ((48 + g) ∷ 58 ∷ integerText k) (other 64 (omega arith))
+      (lacks-more b (48 + g) (58 ∷ integerText k) (other (48 + g) (omega arith)) (lacks-more b 58 (integerText k) (other 58 (omega arith)) (lacks-reading b (Value k) low)))
 
   comparison-lacks : (c : Comparison) → lacks b (comparisonText c) ≡ true
   unfolding comparisonText
   comparison-lacks c =
-      lacks-more b (48 + c .reading) (operatorByte (c .operator) ∷ referenceText (c .reference)) (above (48 + c .reading) (omega arith))
-      (lacks-more b (operatorByte (c .operator)) (referenceText (c .reference)) (operator-lacks (c .operator)) (reference-lacks (c .reference)))
+      lacks-more b (48 + c .reading) (operatorByte (c .operator) ∷ referenceText (c .reference)) (other (48 + c .reading) (omega arith))
+      (lacks-more b (operatorByte (c .operator)) (referenceText (c .reference)) (operator-lacks (c .operator)) (k-lacks (c .reference)))
 
   comparisons-lack : (cs : List Comparison) → all (lacks b) (map comparisonText cs) ≡ true
   unfolding all
   comparisons-lack [] = refl
   comparisons-lack (c ∷ cs) = both (comparison-lacks c) (comparisons-lack cs)
 
+  list-lacks : eqb comma b ≡ false → (cs : List Comparison) → lacks b (comparisonsText cs) ≡ true
+  unfolding comparisonsText lacks
+  list-lacks e [] = rw (other 45 (omega arith))
+  list-lacks e (c ∷ cs) = lacks-joined b comma (map comparisonText (c ∷ cs)) e (comparisons-lack (c ∷ cs))
+
   pub condition-lacks : eqb comma b ≡ false → (c : Condition) → lacks b (conditionText c) ≡ true
-  unfolding conditionText comparisonsText
-  condition-lacks e c = go (comparisonsOf c)
-    where
-      go : (cs : List Comparison) → lacks b (comparisonsText cs) ≡ true
-      go [] = unfold lacks in rw (above 45 (omega arith))
-      go (d ∷ ds) = lacks-joined b comma (map comparisonText (d ∷ ds)) e (comparisons-lack (d ∷ ds))
+  unfolding conditionText
+  condition-lacks e c = list-lacks e (comparisonsOf c)
 
--- ---- a written condition
+-- ---- a condition that is written
 
-later : {A : Type 0} (p : A → Bool) (xs : List A) (y : A) (ys : List A) → all p (xs ++ y ∷ ys) ≡ true → p y ≡ true
+later : {A : Type 0} (p : A → Bool) (xs : List A) (y : A) (ys : List A) → all p (xs ++ (y ∷ ys)) ≡ true → p y ≡ true
 unfolding all
 later p [] y ys h = and-left (p y) (all p ys) h
-later p (x ∷ xs) y ys h = later p xs y ys (and-right (p x) (all p (xs ++ y ∷ ys)) h)
+later p (x ∷ xs) y ys h = later p xs y ys (and-right (p x) (all p (xs ++ (y ∷ ys))) h)
 
-not-tested : (cs : List Comparison) (c : Comparison) (ds : List Comparison) → noneTwice (cs ++ c ∷ ds) ≡ true → tested (c .reading) cs ≡ false
+-- in a list where no reading is tested twice, an earlier comparison is of another reading
+not-tested : (cs : List Comparison) (c : Comparison) (ds : List Comparison) → noneTwice (cs ++ (c ∷ ds)) ≡ true → tested (c .reading) cs ≡ false
 unfolding noneTwice tested any
 not-tested [] c ds h = refl
 not-tested (d ∷ cs) c ds h =
-    let differ : not (eqb (d .reading) (c .reading)) ≡ true = later (λ e. not (eqb (d .reading) (e .reading))) cs c ds (and-left (all (λ e. not (eqb (d .reading) (e .reading))) (cs ++ c ∷ ds)) (noneTwice (cs ++ c ∷ ds)) h) in
-    go (eqb (d .reading) (c .reading)) differ (not-tested cs c ds (and-right (all (λ e. not (eqb (d .reading) (e .reading))) (cs ++ c ∷ ds)) (noneTwice (cs ++ c ∷ ds)) h))
-  where
-    go : (t : Bool) → not t ≡ true → tested (c .reading) cs ≡ false → (t || tested (c .reading) cs) ≡ false
-    go true e f = absurd (false≢true e)
-    go false e f = f
+    let l : (all (λ e. not (eqb (d .reading) (e .reading))) (cs ++ (c ∷ ds)) && noneTwice (cs ++ (c ∷ ds))) ≡ true = h in
+    let n : not (eqb (d .reading) (c .reading)) ≡ true = later (λ e. not (eqb (d .reading) (e .reading))) cs c ds (and-left (all (λ e. not (eqb (d .reading) (e .reading))) (cs ++ (c ∷ ds))) (noneTwice (cs ++ (c ∷ ds))) l) in
+    rw (not-true (eqb (d .reading) (c .reading)) n) (not-tested cs c ds (and-right (all (λ e. not (eqb (d .reading) (e .reading))) (cs ++ (c ∷ ds))) (noneTwice (cs ++ (c ∷ ds))) l))
 
-comparisons-written : (correlation : Bool) (cs ds : List Comparison) → all (validComparison correlation) ds ≡ true → noneTwice (cs ++ ds) ≡ true → comparisonsAfter correlation cs (map comparisonText ds) ≡ Of (cs ++ ds)
+after-written : (correlation : Bool) (cs ds : List Comparison) → all (validComparison correlation) ds ≡ true → noneTwice (cs ++ ds) ≡ true → comparisonsAfter correlation cs (map comparisonText ds) ≡ Of (cs ++ ds)
 unfolding all comparisonsAfter _>>=_ _>>_ require
-comparisons-written correlation cs [] v n = ap Of (sym (append-nil cs))
-comparisons-written correlation cs (d ∷ ds) v n =
+after-written correlation cs [] v n = ap Of (sym (append-nil cs))
+after-written correlation cs (d ∷ ds) v n =
     rw (comparison-written correlation d (and-left (validComparison correlation d) (all (validComparison correlation) ds) v), not-tested cs d ds n)
-    (comparisons-written correlation (cs ++ d ∷ []) ds (and-right (validComparison correlation d) (all (validComparison correlation) ds) v) (rw (append-assoc cs (d ∷ []) ds) n)
+    (after-written correlation (cs ++ (d ∷ [])) ds (and-right (validComparison correlation d) (all (validComparison correlation) ds) v) (rw (append-assoc cs (d ∷ []) ds) n)
     ∙ ap Of (append-assoc cs (d ∷ []) ds))
 
+-- a comparison has more bytes than `-`
+not-dash : (c : Comparison) (cs : List Comparison) → dash (joined comma (map comparisonText (c ∷ cs))) ≡ false
+unfolding joined comparisonText dash none
+not-dash c cs = and-false (eqb (48 + c .reading) 45)
+
 list-written : (correlation : Bool) (cs : List Comparison) → all (validComparison correlation) cs ≡ true → noneTwice cs ≡ true → conditionField correlation (comparisonsText cs) ≡ Of (conditionOf cs)
-unfolding conditionField comparisonsText
-list-written correlation [] v n = unfold dash none noCondition conditionOf in refl
+unfolding conditionField comparisonsField comparisonsText _>>=_ dash none noCondition conditionOf
+list-written correlation [] v n = refl
 list-written correlation (c ∷ cs) v n =
-    rw not-dash
-    (unfold comparisonsField _>>=_ in
-    rw (split-joined comma (comparisonText c) (map comparisonText cs) (comparisons-lack comma (omega arith) refl (c ∷ cs)), comparisons-written correlation [] (c ∷ cs) v n))
-  where
-    not-dash : dash (joined comma (map comparisonText (c ∷ cs))) ≡ false
-    not-dash = unfold joined comparisonText dash none in and-no (eqb (48 + c .reading) 45)
-      where
-        and-no : (t : Bool) → (t && false) ≡ false
-        and-no true = refl
-        and-no false = refl
+    rw (not-dash c cs, split-joined comma (comparisonText c) (map comparisonText cs) (comparisons-lack comma (omega arith) refl (c ∷ cs)), after-written correlation [] (c ∷ cs) v n)
 
 pub condition-written : (correlation : Bool) (c : Condition) → validCondition correlation c ≡ true → conditionField correlation (conditionText c) ≡ Of (tidyCondition c)
 unfolding validCondition conditionText tidyCondition
@@ -129,7 +124,7 @@ record ComparisonsRead (correlation : Bool) (cs : List Comparison) (fields : Lis
   valid : all (validComparison correlation) ds ≡ true
   distinct : Distinct ds
 
-map-more : (cs : List Comparison) (c : Comparison) (field : List ℕ) (fields : List (List ℕ)) → comparisonText c ≡ field → map comparisonText (cs ++ c ∷ []) ++ fields ≡ map comparisonText cs ++ field ∷ fields
+map-more : (cs : List Comparison) (c : Comparison) (field : List ℕ) (fields : List (List ℕ)) → comparisonText c ≡ field → map comparisonText (cs ++ (c ∷ [])) ++ fields ≡ map comparisonText cs ++ (field ∷ fields)
 map-more [] c field fields e = ap (λ (f : List ℕ). f ∷ fields) e
 map-more (d ∷ cs) c field fields e = ap (λ (fs : List (List ℕ)). comparisonText d ∷ fs) (map-more cs c field fields e)
 
@@ -147,26 +142,19 @@ comparisons-read correlation cs (field ∷ fields) ds v n h =
     let c : Comparison = w .value in
     let u = required (not (tested (c .reading) cs)) 5 _ ds (w .rest) in
     let r = comparison-read correlation field c (w .first) in
-    let m : Distinct (cs ++ c ∷ []) = distinct-more cs c n (comparison-reading correlation field c (w .first)) (untested (tested (c .reading) cs) (u .0)) in
-    let q : ComparisonsRead correlation (cs ++ c ∷ []) fields ds = comparisons-read correlation (cs ++ c ∷ []) fields ds (all-append (validComparison correlation) cs (c ∷ []) v (both (r .valid) refl)) m (u .1) in
+    let m = distinct-more cs c n (comparison-reading correlation field c (w .first)) (not-true (tested (c .reading) cs) (u .0)) in
+    let q = comparisons-read correlation (cs ++ (c ∷ [])) fields ds (all-append (validComparison correlation) cs (c ∷ []) v (both (r .valid) refl)) m (u .1) in
     record { text = q .text ∙ map-more cs c field fields (r .text); valid = q .valid; distinct = q .distinct }
-  where
-    untested : (t : Bool) → not t ≡ true → t ≡ false
-    untested true e = absurd (false≢true e)
-    untested false e = refl
 
 pub record ConditionRead (correlation : Bool) (field : List ℕ) (c : Condition) : Type 0 where
   pub text : conditionText c ≡ field
   pub valid : validCondition correlation c ≡ true
   pub tidied : tidyCondition c ≡ c
 
--- some comparisons, parted by commas
+-- a split has a first part, so that there is some comparison
 list-text : (cs : List Comparison) (field : List ℕ) → map comparisonText cs ≡ split comma field → comparisonsText cs ≡ field
 unfolding comparisonsText
-list-text [] field e = absurd (differ (e ∙ parts comma field))
-  where
-    differ : {p : List ℕ} {ps : List (List ℕ)} → [] ≡ p ∷ ps → ⊥
-    differ h = omega (arith, ap length h)
+list-text [] field e = absurd (omega (arith, ap length (e ∙ parts comma field)))
 list-text (c ∷ cs) field e = ap (joined comma) e ∙ joined-split comma field
 
 few-counted : (cs : List Comparison) → length cs ≤ 4 → leb (conditionOf cs .count) 4 ≡ true
@@ -176,8 +164,8 @@ few-counted cs h = le-leb (length cs) 4 h
 list-read : (correlation : Bool) (cs : List Comparison) (field : List ℕ) → ComparisonsRead correlation [] (split comma field) cs → ConditionRead correlation field (conditionOf cs)
 unfolding conditionText validCondition tidyCondition
 list-read correlation cs field w =
-    let few : length cs ≤ 4 = at-most-four cs (w .distinct) in
-    let same : comparisonsOf (conditionOf cs) ≡ cs = comparisons-slots cs few in
+    let few = at-most-four cs (w .distinct) in
+    let same = comparisons-slots cs few in
     record {
       text = ap comparisonsText same ∙ list-text cs field (w .text);
       valid = both₃ (few-counted cs few) (rw same (w .valid)) (rw same (w .distinct .once));

@@ -1,25 +1,25 @@
 -- Conditions: of four readings none is tested twice, so that four slots suffice; a condition's slots are its list of comparisons; and
 -- comparisons one after the other, by where they begin in the field.
-use mathlib.Core.Path.{_≡_, refl, sym, _∙_, ap}
+use mathlib.Core.Path.{_≡_, refl, sym, ap}
 use mathlib.Core.Bool.{Bool, true, false, not, cond, _&&_, _||_, false≢true, true≢false}
 use mathlib.Core.List.{List, [], _∷_, _++_, map}
 use Prim.Native.Nat.{ℕ, zero, suc, _+_, _≤_, _<_}
 use native.Mathlib.Omega.{arith}
-use borrow.Author.Tests.{eq-eqb, ne-eqb, eqb-true, le-ltb, lt-ltb, le-leb, lt-leb, ltb-true, ltb-false}
+use borrow.Author.Tests.{eq-eqb, eqb-true, lt-ltb, le-leb, lt-leb, ltb-true, ltb-false}
 use lib.Dec.{eqb, leb, ltb}
 use lib.ListN.{length, take, drop, length-append, length-take, length-drop}
 use lib.Seq.{drop-drop, take-nil}
 use Rattle.declare.specs.Lists.{all, any}
 use Rattle.declare.specs.Conditions.{comparisonsOf}
-use Rattle.declare.specs.Rules.{isReading, noneTwice, noComparison}
+use Rattle.declare.specs.Rules.{isReading, noneTwice}
 use Rattle.declare.proofs.Booleans.{and-left, and-right, both, all-append}
 use Rattle.declare.proofs.Satisfiability.{one-of-four}
 use Rattle.line.specs.Fields.{indexOf, before, following, countOf, split}
-use Rattle.line.specs.Answers.{Answer, Of, No, _>>=_, _>>_, require}
+use Rattle.line.specs.Answers.{Of, No, _>>=_, _>>_, require}
 use Rattle.line.proofs.Fields.{parts}
 use Rattle.rule_text.specs.Types.{Comparison, Condition}
 use Rattle.rule_text.specs.Comparisons.{comparisonField}
-use Rattle.rule_text.specs.Conditions.{comma, tested, comparisonsAfter, conditionOf, comparisonsField}
+use Rattle.rule_text.specs.Conditions.{comma, tested, comparisonsAfter, conditionOf}
 
 -- ---- four readings
 

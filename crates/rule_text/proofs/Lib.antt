@@ -7,3 +7,4 @@ pub mod Lines
 pub mod Turns
 pub mod Tidy
 pub mod RoundTrips
+pub mod Vectors

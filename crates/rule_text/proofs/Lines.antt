@@ -1,17 +1,17 @@
 -- A rule line: its seven fields, one after the other; what the definition makes of their answers; and the checks before the fields.
 use mathlib.Core.Path.{_≡_, refl, _∙_, ap}
 use mathlib.Core.Bool.{true, false}
-use mathlib.Core.List.{List, [], _∷_}
+use mathlib.Core.List.{List, _∷_}
 use Prim.Native.Nat.{ℕ, zero, suc, _+_, _≤_, _<_}
 use native.Mathlib.Omega.{arith}
-use borrow.Author.Tests.{eq-eqb, ne-eqb, lt-ltb, le-ltb}
+use borrow.Author.Tests.{ne-eqb, lt-ltb, le-ltb}
 use lib.ListN.{length, drop}
 use Rattle.line.specs.Fields.{LF, tab, indexOf, before, following, split}
 use Rattle.line.specs.Answers.{Answer, Of, No, _>>=_, _>>_, require}
 use Rattle.line.specs.Values.{numberField}
 use Rattle.line.specs.Texts.{lineOf}
 use Rattle.line.proofs.Fields.{next-field, last-field}
-use Rattle.rule_text.specs.Types.{Condition, End, Rule}
+use Rattle.rule_text.specs.Types.{Condition, End}
 use Rattle.rule_text.specs.Conditions.{conditionField}
 use Rattle.rule_text.specs.Rules.{endField, isAbove, ruleOf}
 use Rattle.rule_text.specs.Reads.{fieldsFrom, headBy, ruleBy}

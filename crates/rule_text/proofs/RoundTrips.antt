@@ -1,50 +1,52 @@
 -- What an accepted rules text gives, and that writing and reading undo each other: first for one line, then for a text by the laws of texts.
--- A text says nothing of the slots that a condition does not use: a rule and its tidy form are written alike, and the tidy form is read back.
+-- A rule and its tidy form are written alike, and the tidy form is what is read back.
 use mathlib.Core.Path.{_≡_, refl, sym, _∙_, ap}
-use mathlib.Core.Bool.{Bool, true, false, cond, _&&_, false≢true}
+use mathlib.Core.Bool.{Bool, true, false, cond, _&&_}
 use mathlib.Core.List.{List, [], _∷_, _++_, map}
-use Prim.Native.Nat.{ℕ, suc, _+_, _≤_, _<_}
+use Prim.Native.Nat.{ℕ, _+_, _≤_, _<_}
 use native.Mathlib.Omega.{arith}
 use borrow.Author.Tests.{leb-true, le-leb, ltb-true, lt-ltb, eqb-true, ne-eqb}
-use lib.Dec.{leb, ltb, eqb}
+use lib.Dec.{leb, ltb}
 use lib.IntN.{pos}
-use lib.ListN.{length, getD, length-append}
+use lib.ListN.{length, getD, length-append, length-take}
 use Rattle.declare.specs.declared.Reading.the-variants.{Blank}
 use Rattle.declare.specs.Lists.{all}
 use Rattle.declare.specs.Events.{latest, isActivity}
-use Rattle.declare.specs.Conditions.{comparisonsOf}
-use Rattle.declare.specs.Rules.{isTemplate, validCondition, validEnd, validWindow, validHead, validRule}
-use Rattle.declare.proofs.Booleans.{and₂, and₃, and₄, both, both₃, all-append}
+use Rattle.declare.specs.Rules.{isTemplate, validCondition, validEnd, validWindow, validHead, validRule, rulesOf, validTable}
+use Rattle.declare.proofs.Booleans.{and₂, and₃, and₄, both, all-append}
 use Rattle.number.specs.Number.{dash, none}
 use Rattle.number.specs.Written.{digitsOf, integerText}
 use Rattle.number.proofs.Written.{integer-not-dash}
 use Rattle.line.specs.Fields.{LF, tab}
 use Rattle.line.specs.Answers.{Of, _>>=_, _>>_, require}
 use Rattle.line.specs.Values.{numberField, readingText}
-use Rattle.line.specs.Texts.{All, writtenLine, writtenText}
+use Rattle.line.specs.Texts.{Records, All, Stop, writtenLine, writtenText}
 use Rattle.line.proofs.Answers.{of-of, through, required}
 use Rattle.line.proofs.Values.{dash-text, number-written, number-read, lacks-number, lacks-reading}
 use Rattle.line.proofs.Joined.{lacks}
 use Rattle.line.proofs.Texts.{Parted, Follow, text-written, text-back, accepted}
-use Rattle.rule_text.specs.Types.{Condition, End, Never, At, Window, Rule}
+use Rattle.rule_text.specs.Types.{End, Never, At, Rule, Table}
 use Rattle.rule_text.specs.Conditions.{comma, conditionField}
 use Rattle.rule_text.specs.Rules.{endField, isAbove, ruleOf, inTable, ruleAfter, rulesTextOf}
-use Rattle.rule_text.specs.Written.{comparisonsText, conditionText, endText, ruleFields, rulesText, tidyCondition, tidy, Sound, RoundTrips}
+use Rattle.rule_text.specs.Written.{conditionText, endText, ruleFields, rulesText, tidy, Sound, RoundTrips}
+use Rattle.rule_text.specs.Reads.{rulesIn, tableOf}
 use Rattle.rule_text.proofs.ConditionTexts.{condition-lacks, condition-written, condition-read}
 use Rattle.rule_text.proofs.Tidy.{tidy-comparisons}
+use Rattle.rule_text.proofs.Turns.{table-rules}
 
 -- ---- the end of a window
 
+digits-not-dash : (n : ℕ) → dash (digitsOf n) ≡ false
+unfolding integerText
+digits-not-dash n = integer-not-dash (pos n)
+
 end-written : (a : ℕ) (e : End) → validEnd a e ≡ true → endField (endText e) ≡ Of e
-unfolding validEnd latest endField endText _>>=_
-end-written a Never v = unfold dash none in refl
+unfolding validEnd latest endField endText _>>=_ dash none
+end-written a Never v = refl
 end-written a (At b) v =
     let p : (ltb a b ≡ true) × (leb b 4294967295 ≡ true) = and₂ v in
-    let low : a < b = ltb-true a b (p .0) in
-    rw (not-dash b, number-written 1 4294967295 b (omega arith) (leb-true b 4294967295 (p .1)))
-  where
-    not-dash : (n : ℕ) → dash (digitsOf n) ≡ false
-    not-dash n = unfold integerText in integer-not-dash (pos n)
+    let low = ltb-true a b (p .0) in
+    rw (digits-not-dash b, number-written 1 4294967295 b (omega arith) (leb-true b 4294967295 (p .1)))
 
 record EndRead (field : List ℕ) (e : End) : Type 0 where
   text : endText e ≡ field
@@ -71,8 +73,8 @@ end-read field e h = go (dash field) refl h
         rw (← of-of (w .rest)) (at-read field (w .value) (w .first))
 
 end-lacks : (b : ℕ) → b < 45 → (e : End) → lacks b (endText e) ≡ true
-unfolding endText
-end-lacks b h Never = unfold readingText in lacks-reading b Blank h
+unfolding endText readingText
+end-lacks b h Never = lacks-reading b Blank h
 end-lacks b h (At n) = lacks-number b n h
 
 -- ---- a line that was read
@@ -127,6 +129,7 @@ read-valid fields r h =
     let f = number-read 0 4294967295 _ _ (h .from) in
     rw (in-range 1 12 (r .code) (c .low) (c .high), in-range 1 64 (r .activation) (a .low) (a .high), in-range 1 64 (r .target) (t .low) (t .high), le-leb (r .window .from) 4294967295 (f .high), end-read _ _ (h .until) .valid (r .window .from) (h .order), condition-read false _ _ (h .condition) .valid, condition-read true _ _ (h .correlation) .valid)
 
+-- has noComparison in the slots that are not in use
 read-tidy : (fields : List (List ℕ)) (r : Rule) → RuleRead fields r → tidy r ≡ r
 unfolding tidy
 read-tidy fields r h = rw (condition-read false _ _ (h .condition) .tidied, condition-read true _ _ (h .correlation) .tidied)
@@ -166,7 +169,6 @@ rule-after above fields r h =
 
 -- ---- an accepted text
 
--- its rules are within the limits, and tidy
 record Accepted (rs : List Rule) : Type 0 where
   sound : Sound rs
   tidied : map tidy rs ≡ rs
@@ -175,20 +177,24 @@ accepted-none : Accepted []
 unfolding all
 accepted-none = record { sound = record { most = omega arith; valid = refl }; tidied = refl }
 
-map-more : (rs : List Rule) (r : Rule) → map tidy rs ≡ rs → tidy r ≡ r → map tidy (rs ++ r ∷ []) ≡ rs ++ r ∷ []
-map-more rs r e f = tidy-parts rs (r ∷ []) ∙ rw (e, f)
+tidied-more : (rs : List Rule) (r : Rule) → map tidy rs ≡ rs → tidy r ≡ r → map tidy (rs ++ (r ∷ [])) ≡ rs ++ (r ∷ [])
+tidied-more rs r e f = map-append rs (r ∷ []) ∙ rw (e, f)
   where
-    tidy-parts : (qs ps : List Rule) → map tidy (qs ++ ps) ≡ map tidy qs ++ map tidy ps
-    tidy-parts [] ps = refl
-    tidy-parts (q ∷ qs) ps = ap (λ (l : List Rule). tidy q ∷ l) (tidy-parts qs ps)
+    map-append : (ps qs : List Rule) → map tidy (ps ++ qs) ≡ map tidy ps ++ map tidy qs
+    map-append [] qs = refl
+    map-append (p ∷ ps) qs = ap (λ (l : List Rule). tidy p ∷ l) (map-append ps qs)
 
-accepted-more : (above : List Rule) (fields : List (List ℕ)) (r : Rule) → Accepted above → ruleAfter above fields ≡ Of r → Accepted (above ++ r ∷ [])
+accepted-more : (above : List Rule) (fields : List (List ℕ)) (r : Rule) → Accepted above → ruleAfter above fields ≡ Of r → Accepted (above ++ (r ∷ []))
 unfolding all
 accepted-more above fields r s h =
     let a = rule-after above fields r h in
-    let most : length (above ++ r ∷ []) ≤ 16 = rw (length-append above (r ∷ [])) (omega (arith, a .room)) in
-    let valid : all validRule (above ++ r ∷ []) ≡ true = all-append validRule above (r ∷ []) (s .sound .valid) (both (read-valid fields r (a .line)) refl) in
-    record { sound = record { most = most; valid = valid }; tidied = map-more above r (s .tidied) (read-tidy fields r (a .line)) }
+    record {
+      sound = record {
+        most = rw (length-append above (r ∷ [])) (omega (arith, a .room));
+        valid = all-append validRule above (r ∷ []) (s .sound .valid) (both (read-valid fields r (a .line)) refl);
+      };
+      tidied = tidied-more above r (s .tidied) (read-tidy fields r (a .line));
+    }
 
 accepted-text : (text : List ℕ) (rs : List Rule) → rulesTextOf text ≡ All rs → Accepted rs
 unfolding rulesTextOf
@@ -226,16 +232,16 @@ limits r h =
       correlation = p .2;
     }
 
-above-end : (a : ℕ) (e : End) → validEnd a e ≡ true → isAbove e a ≡ true
+valid-above : (a : ℕ) (e : End) → validEnd a e ≡ true → isAbove e a ≡ true
 unfolding validEnd isAbove
-above-end a Never v = refl
-above-end a (At b) v = and₂ v .0
+valid-above a Never v = refl
+valid-above a (At b) v = and₂ v .0
 
 rule-written : (r : Rule) → validRule r ≡ true → ruleOf (ruleFields r) ≡ Of (tidy r)
 unfolding ruleOf ruleFields tidy require _>>_ _>>=_
 rule-written r h =
     let w = limits r h in
-    rw (number-written 1 12 (r .code) (w .code .0) (w .code .1), number-written 1 64 (r .activation) (w .activation .0) (w .activation .1), number-written 1 64 (r .target) (w .target .0) (w .target .1), number-written 0 4294967295 (r .window .from) (omega arith) (w .from), end-written (r .window .from) (r .window .until) (w .until), condition-written false (r .condition) (w .condition), condition-written true (r .correlation) (w .correlation), above-end (r .window .from) (r .window .until) (w .until))
+    rw (number-written 1 12 (r .code) (w .code .0) (w .code .1), number-written 1 64 (r .activation) (w .activation .0) (w .activation .1), number-written 1 64 (r .target) (w .target .0) (w .target .1), number-written 0 4294967295 (r .window .from) (omega arith) (w .from), end-written (r .window .from) (r .window .until) (w .until), condition-written false (r .condition) (w .condition), condition-written true (r .correlation) (w .correlation), valid-above (r .window .from) (r .window .until) (w .until))
 
 after-written : (above : List Rule) (r : Rule) → validRule r ≡ true → length above < 16 → ruleAfter above (ruleFields r) ≡ Of (tidy r)
 unfolding ruleAfter inTable require _>>_ _>>=_
@@ -246,13 +252,18 @@ tidy-fields : (r : Rule) → ruleFields (tidy r) ≡ ruleFields r
 unfolding ruleFields tidy conditionText
 tidy-fields r = rw (tidy-comparisons (r .condition), tidy-comparisons (r .correlation))
 
+tidy-text : (rs : List Rule) → rulesText (map tidy rs) ≡ rulesText rs
+unfolding rulesText writtenText writtenLine
+tidy-text [] = refl
+tidy-text (r ∷ rs) = rw (tidy-fields r, tidy-text rs)
+
 -- neither tab nor LF stands in a field
 lacks-fields : (b : ℕ) → b < 33 → (r : Rule) → all (lacks b) (ruleFields r) ≡ true
 unfolding ruleFields all
 lacks-fields b h r =
     let low : b < 45 = omega arith in
-    let mark : eqb 33 b ≡ false = ne-eqb 33 b (λ e. omega arith) in
-    let part : eqb comma b ≡ false = ne-eqb comma b (λ e. omega arith) in
+    let mark = ne-eqb 33 b (λ e. omega arith) in
+    let part = ne-eqb comma b (λ e. omega arith) in
     rw (lacks-number b (r .code) low, lacks-number b (r .activation) low, lacks-number b (r .target) low, lacks-number b (r .window .from) low, end-lacks b low (r .window .until), condition-lacks b low mark part (r .condition), condition-lacks b low mark part (r .correlation))
 
 parted : (r : Rule) → Parted ruleFields r
@@ -268,13 +279,8 @@ follow above (r ∷ rs) v m =
     let p : (validRule r ≡ true) × (all validRule rs ≡ true) = and₂ v in (
       parted (tidy r),
       ap (ruleAfter above) (tidy-fields r) ∙ after-written above r (p .0) (omega arith),
-      follow (above ++ tidy r ∷ []) rs (p .1) (rw (length-append above (tidy r ∷ [])) (omega arith)),
+      follow (above ++ (tidy r ∷ [])) rs (p .1) (rw (length-append above (tidy r ∷ [])) (omega arith)),
     )
-
-tidy-text : (rs : List Rule) → rulesText (map tidy rs) ≡ rulesText rs
-unfolding rulesText writtenText writtenLine
-tidy-text [] = refl
-tidy-text (r ∷ rs) = rw (tidy-fields r, tidy-text rs)
 
 pub round-trips : RoundTrips
 unfolding rulesTextOf rulesText
@@ -284,3 +290,36 @@ round-trips =
       read = λ rs s. ap rulesTextOf (sym (tidy-text rs)) ∙ text-written ruleAfter ruleFields (map tidy rs) (follow [] rs (s .valid) (omega (arith, s .most)));
       again = λ text rs. text-back ruleAfter ruleFields (λ above fields r h. read-fields fields r (rule-after above fields r h .line)) text rs;
     }
+
+-- rules with noComparison in the slots that are not in use
+pub read-same : (rs : List Rule) → Sound rs → map tidy rs ≡ rs → rulesTextOf (rulesText rs) ≡ All rs
+read-same rs s e = round-trips .read rs s ∙ ap All e
+
+-- ---- tables
+
+-- the rules of a valid table, whatever stands in its unused slots
+pub table-sound : (t : Table) → validTable t ≡ true → Sound (rulesOf t)
+unfolding validTable rulesOf
+table-sound t h =
+    let p : (leb (t .count) 16 ≡ true) × (all validRule (rulesOf t) ≡ true) = and₂ h in
+    let c = leb-true (t .count) 16 (p .0) in
+    record { most = rw (length-take (t .count) (t .rules)) (omega arith); valid = p .1 }
+
+pub table-read : (t : Table) → validTable t ≡ true → rulesTextOf (rulesText (rulesOf t)) ≡ All (map tidy (rulesOf t))
+table-read t h = round-trips .read (rulesOf t) (table-sound t h)
+
+sound-table : (rs : List Rule) → Sound rs → validTable (tableOf rs) ≡ true
+unfolding validTable
+sound-table rs s = both (counted rs (s .most)) (rw (table-rules rs) (s .valid))
+  where
+    counted : (qs : List Rule) → length qs ≤ 16 → leb (tableOf qs .count) 16 ≡ true
+    counted qs h = unfold tableOf in le-leb (length qs) 16 h
+
+-- the table that is handed back is valid, for every text
+pub table-valid : (text : List ℕ) → validTable (tableOf (rulesIn (rulesTextOf text))) ≡ true
+unfolding rulesIn
+table-valid text = go (rulesTextOf text) refl
+  where
+    go : (x : Records Rule) → rulesTextOf text ≡ x → validTable (tableOf (rulesIn x)) ≡ true
+    go (All rs) p = sound-table rs (accepted-text text rs p .sound)
+    go (Stop n line) p = sound-table [] (accepted-none .sound)

@@ -1,9 +1,9 @@
 -- A rule and its tidy form differ in slots that are not in use, and no definition looks at those: the comparisons are the same, so whatever is
 -- asked of events is the same, and with it the verdicts and the standings.
-use mathlib.Core.Path.{_≡_, refl, ap, ap₂, _∙_, fun-ext}
+use mathlib.Core.Path.{_≡_, refl, ap, ap₂, fun-ext}
 use mathlib.Core.Bool.{Bool, true, false, cond, _&&_}
 use mathlib.Core.List.{List, map}
-use Prim.Native.Nat.{ℕ, suc, _≤_}
+use Prim.Native.Nat.{ℕ, suc}
 use borrow.Author.Tests.{le-leb}
 use lib.Dec.{leb, eqb}
 use lib.ListN.{length}
@@ -15,7 +15,7 @@ use Rattle.declare.specs.Comparisons.{testOf, passes}
 use Rattle.declare.specs.Conditions.{comparisonsOf, testsOf, met}
 use Rattle.declare.specs.Events.{eventAt}
 use Rattle.declare.specs.Rules.{noneTwice, validComparison, validCondition, validHead, validRule}
-use Rattle.declare.specs.Suits.{isActivation, activationAt, within, between, correlates, suits}
+use Rattle.declare.specs.Suits.{isActivation, activationAt, correlates, suits}
 use Rattle.declare.specs.Templates.{inReach, reachOf, polarityOf}
 use Rattle.declare.specs.Verdicts.{eligible, target, decided, verdict}
 use Rattle.declare.specs.Reachability.{satisfiable, hasRoom, canCome, undecided, standing}

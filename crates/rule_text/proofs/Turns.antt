@@ -16,7 +16,7 @@ use Rattle.line.specs.Answers.{Answer, Of, No, _>>=_, _>>_, require}
 use Rattle.line.specs.Texts.{Records, All, Stop, lineAfter, continued, linesOf, lineOf, recordsRead}
 use Rattle.line.proofs.Answers.{no-of}
 use Rattle.line.proofs.Texts.{line-then, text-step}
-use Rattle.rule_text.specs.Types.{Rule, Table, Refusal, Outcome, Accepted, Refused, RuleAnswer, Found, NoRule, RulesRead}
+use Rattle.rule_text.specs.Types.{Rule, Refusal, Accepted, Refused, RuleAnswer, Found, NoRule, RulesRead}
 use Rattle.rule_text.specs.Rules.{ruleOf, inTable, ruleAfter}
 use Rattle.rule_text.specs.Reads.{ruleRead, rulesIn, padded, tableOf}
 

@@ -1,4 +1,4 @@
-// Conditions: comparisons parted by commas, none of a reading that an earlier one is of.
+// Conditions: comparisons parted by commas, no reading twice.
 ghost use mathlib.Core.Path.{_≡_};
 ghost use mathlib.Core.List.{[], _∷_, _++_};
 ghost use Prim.Native.Nat.{_<_};
@@ -113,11 +113,6 @@ fn comparisons(field: &[u8], correlation: bool) -> ConditionAnswer
     ConditionAnswer::Comparisons(condition)
 }
 
-pub struct ConditionField {
-    pub answer: ConditionAnswer,
-    pub length: usize,
-}
-
 fn condition(field: &[u8], correlation: bool) -> ConditionAnswer
     ensures { λ r. ⌜ conditionRead r ≡ conditionField correlation (now (field .entry)) ⌝ }
 {
@@ -125,6 +120,11 @@ fn condition(field: &[u8], correlation: bool) -> ConditionAnswer
         return ConditionAnswer::Comparisons(no_condition());
     }
     comparisons(field, correlation)
+}
+
+pub struct ConditionField {
+    pub answer: ConditionAnswer,
+    pub length: usize,
 }
 
 // The first field as a condition.

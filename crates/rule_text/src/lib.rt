@@ -43,6 +43,7 @@ fn no_rule() -> Rule
     }
 }
 
+// A refused text has no rules.
 fn refused(cause: Refusal, line: usize) -> RulesRead
     ensures { λ r. ⌜ r .outcome ≡ Outcome.Refused cause line ⌝ }
     ensures { λ r. ⌜ r .table ≡ tableOf [] ⌝ }
@@ -55,7 +56,7 @@ fn refused(cause: Refusal, line: usize) -> RulesRead
     }
 }
 
-// Line by line: each line's reader is handed the part of the text that begins at the line.
+// The rules of a rules text. Each line's reader is handed the part of the text that begins at the line.
 pub fn read_rules(text: &[u8]) -> RulesRead
     ensures { λ r. ⌜ recordsRead (r .outcome) (rulesOf (r .table)) ≡ rulesTextOf (now (text .entry)) ⌝ }
     ensures { λ r. ⌜ r .table ≡ tableOf (rulesIn (rulesTextOf (now (text .entry)))) ⌝ }

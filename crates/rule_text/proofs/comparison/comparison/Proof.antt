@@ -1,11 +1,8 @@
 -- `comparison::comparison`: a digit, an operator and a reference, byte by byte.
 use mathlib.Core.Path.{_≡_, sym, _∙_, ap}
-use mathlib.Core.Bool.{true, false}
-use mathlib.Core.List.{List}
-use Prim.Native.Nat.{ℕ, _+_, _-_}
+use Prim.Native.Nat.{_+_, _-_}
 use native.Mathlib.Omega.{arith}
-use borrow.Author.Tests.{eq-eqb, ne-eqb, not-true, not-false}
-use lib.Dec.{eqb}
+use borrow.Author.Tests.{not-true, not-false}
 use lib.ListN.{getD, drop, length, length-drop}
 use Rattle.declare.specs.Refusals.{numberOf}
 use Rattle.line.specs.Answers.{Of}

@@ -1,11 +1,8 @@
 -- `comparison::reference`: k, or what follows `@` in a correlation.
 use mathlib.Core.Path.{_≡_, sym, _∙_, ap}
-use mathlib.Core.Bool.{true, false}
-use mathlib.Core.List.{List}
-use Prim.Native.Nat.{ℕ, _+_}
+use Prim.Native.Nat.{_+_}
 use native.Mathlib.Omega.{arith}
 use borrow.Author.Tests.{eq-eqb, ne-eqb, not-true, not-false}
-use lib.Dec.{eqb}
 use lib.ListN.{getD, drop, length, length-drop}
 use Rattle.declare.specs.Refusals.{numberOf}
 use Rattle.line.specs.Answers.{Of}

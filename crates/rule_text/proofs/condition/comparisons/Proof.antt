@@ -15,7 +15,7 @@ use Rattle.line.proofs.Fields.{part-rest}
 use Rattle.rule_text.specs.Types.{Comparison, Condition, ComparisonAnswer, Compared}
 use Rattle.rule_text.specs.Comparisons.{comparisonField}
 use Rattle.rule_text.specs.Conditions.{comma, tested, comparisonsAfter, conditionOf, comparisonsField}
-use Rattle.rule_text.specs.Reads.{Measured, upToComma, comparisonRead, conditionRead}
+use Rattle.rule_text.specs.Reads.{upToComma, comparisonRead, conditionRead}
 use Rattle.rule_text.proofs.Comparisons.{measured, length-le, refused}
 use Rattle.rule_text.proofs.ComparisonTexts.{comparison-reading}
 use Rattle.rule_text.proofs.Conditions.{Distinct, distinct-none, distinct-more, room, comparisons-slots, fieldsAt, fields-start, fields-end, fields-next, after-refused, after-twice, after-next}

@@ -1,6 +1,5 @@
 -- `condition::condition_field`: the field is the part before the separator.
 use mathlib.Core.Path.{sym, _∙_, ap}
-use mathlib.Core.List.{List}
 use Prim.Native.Nat.{ℕ}
 use lib.ListN.{take}
 use Rattle.line.proofs.Fields.{before-take}

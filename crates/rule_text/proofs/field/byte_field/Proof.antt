@@ -1,5 +1,5 @@
 -- `field::byte_field`: a number up to `high`, which is a byte, is a byte.
-use mathlib.Core.Path.{_≡_, sym, _∙_}
+use mathlib.Core.Path.{_≡_, sym}
 use native.Mathlib.Omega.{arith}
 use Rattle.line.specs.Fields.{tab, before}
 use Rattle.line.specs.Answers.{Of}

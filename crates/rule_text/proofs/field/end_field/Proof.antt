@@ -1,6 +1,5 @@
 -- `field::end_field`: no end for `-` alone; else a number, or its refusal.
 use mathlib.Core.Path.{_≡_, sym, _∙_, ap}
-use mathlib.Core.Bool.{false}
 use Prim.Native.Nat.{ℕ}
 use lib.ListN.{take}
 use Rattle.number.specs.Number.{dash}

@@ -1,11 +1,11 @@
 -- `rule::rule_line`: the checks before the fields, and where LF stands.
 use mathlib.Core.Path.{_≡_, sym, _∙_, ap}
 use mathlib.Core.List.{List}
-use Prim.Native.Nat.{ℕ, _+_, _≤_, _<_}
+use Prim.Native.Nat.{ℕ, _+_}
 use native.Mathlib.Omega.{arith}
 use lib.ListN.{length}
 use Rattle.declare.specs.Refusals.{numberOf}
-use Rattle.line.specs.Fields.{LF, tab, indexOf, before, countOf, split}
+use Rattle.line.specs.Fields.{LF, tab, indexOf, before, split}
 use Rattle.line.specs.Scans.{lineScan}
 use Rattle.line.specs.declared.LineScan.{LineScan}
 use Rattle.line.proofs.Fields.{index-le, count-parts}
