@@ -114,6 +114,14 @@ pub at-idle : (over : Bool) (n i : ℕ) (s : Standing) → n < i → validAt ove
 unfolding validAt
 at-idle over n i s l h = rw (lt-leb i n l) at h
 
+pub idle-anywhere : (over : Bool) (n i : ℕ) (s : Standing) → isIdle s ≡ true → validAt over n i s ≡ true
+unfolding validAt
+idle-anywhere over n i s h = go (leb i n)
+  where
+    go : (t : Bool) → cond t (validStanding over n s) (isIdle s) ≡ true
+    go true = idle-valid over n s h
+    go false = h
+
 pub taken-valid : (over : Bool) (n i : ℕ) (s : Standing) → i ≤ n → validStanding over n s ≡ true → validAt over n i s ≡ true
 unfolding validAt
 taken-valid over n i s l h = rw (le-leb i n l) h

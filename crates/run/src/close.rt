@@ -3,6 +3,7 @@ ghost use mathlib.Core.Path.{_≡_};
 ghost use Prim.Native.Nat.{_≤_};
 ghost use Rattle.declare.specs.Steps.{closing, closed};
 ghost use Rattle.run.specs.Replies.{replyOf, runAfter};
+ghost use Rattle.run.specs.Queries.{isOpen};
 ghost use Rattle.run.specs.Close.{closedCell, closedCells, closeOf};
 use crate::Answer;
 use crate::Run;
@@ -50,7 +51,18 @@ fn closed_cell(used: bool, rule: Rule, c: Cell) -> Cell
     c
 }
 
-// All cells after closing; only the rows of the rules are gone through.
+fn is_open(s: Standing) -> bool
+    ensures { λ r. ⌜ r ≡ isOpen s ⌝ }
+{
+    match s {
+        Standing::Idle => false,
+        Standing::Open => true,
+        Standing::Fulfilled(_) => false,
+        Standing::Violated(_) => false,
+    }
+}
+
+// All cells after closing; only the rows of the rules are gone through, and only what is open can change.
 fn closed_cells(table: Table, count: usize, mut cells: [Cell; 4096]) -> [Cell; 4096]
     requires { ⌜ table .count ≤ 16 ⌝ }
     ensures { λ r. ⌜ r ≡ closedCells table count cells ⌝ }
@@ -58,12 +70,15 @@ fn closed_cells(table: Table, count: usize, mut cells: [Cell; 4096]) -> [Cell; 4
     let rules = table.count;
     let end = rules * 256;
     for j in 0..end {
-        let k = j / 256;
-        let used = (k < rules) & (j % 256 < count);
-        let rule = table.rules[k];
         let c = cells[j];
-        let next = closed_cell(used, rule, c);
-        cells[j] = next;
+        let s = c.standing;
+        if is_open(s) {
+            let k = j / 256;
+            let used = (k < rules) & (j % 256 < count);
+            let rule = table.rules[k];
+            let next = closed_cell(used, rule, c);
+            cells[j] = next;
+        }
     }
     cells
 }

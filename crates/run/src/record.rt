@@ -74,15 +74,17 @@ fn valid_standing(closed: bool, count: usize, s: Standing) -> bool
     }
 }
 
-// Whether s may stand at place p of a row, that is at position p + 1; past the count only idle may.
+// Whether s may stand at place p of a row, that is at position p + 1: idle may stand anywhere, and most are.
 fn valid_at(closed: bool, count: usize, p: usize, s: Standing) -> bool
     ensures { λ r. ⌜ r ≡ validAt closed count (p + 1) s ⌝ }
 {
-    if p < count {
-        valid_standing(closed, count, s)
-    } else {
-        is_idle(s)
+    if is_idle(s) {
+        return true;
     }
+    if p < count {
+        return valid_standing(closed, count, s);
+    }
+    false
 }
 
 // Whether every cell of the first `rules` rows may stand where it does.
@@ -91,13 +93,14 @@ fn valid_standings(closed: bool, rules: usize, count: usize, cells: [Cell; 4096]
     ensures { λ r. ⌜ r ≡ validStandings closed rules count cells ⌝ }
 {
     let end = rules * 256;
-    let mut valid = true;
     for j in 0..end {
         let c = cells[j];
         let s = c.standing;
-        valid = valid & valid_at(closed, count, j % 256, s);
+        if !valid_at(closed, count, j % 256, s) {
+            return false;
+        }
     }
-    valid
+    true
 }
 
 // Whether nothing in the record is a cause of refusal 11.

@@ -6,7 +6,7 @@ use std::fmt;
 /// A command has 32 bytes; the texts follow it.
 pub const COMMAND_BYTES: usize = 32;
 
-/// "A text is at most 65,536 bytes; at a larger one `probe` ends."
+/// "A text is at most 65,536 bytes"; a script never has a larger one.
 pub const LARGEST_TEXT: usize = 65_536;
 
 /// One command. Slots, places and cells count from 0, rules and positions

@@ -1,13 +1,24 @@
--- The loop has changed the cells passed as the definition changes them all; past the rows of the rules none is in use.
-use mathlib.Core.Path.{_≡_}
-use Prim.Native.Nat.{_*_, _-_, _≤_}
+-- The loop has changed the cells passed as the definition changes them all: an open one is stored anew, any other stays as it is; past the
+-- rows of the rules none is in use.
+use mathlib.Core.Path.{_≡_, refl, sym, ap, subst, _∙_}
+use mathlib.Core.Bool.{Bool, true, false, cond}
+use mathlib.Core.List.{List}
+use mathlib.Core.Logic.{⊎-elim}
+use Prim.Native.Nat.{ℕ, _+_, _*_, _-_, _/_, _≤_, _<_}
 use native.Mathlib.Omega.{arith}
-use lib.ListN.{length}
+use lib.ListN.{length, getD, set}
+use lib.Seq.{set-getD}
+use Rattle.declare.specs.declared.Standing.{Standing}
+use Rattle.declare.specs.declared.Table.{Table}
+use Rattle.declare.specs.Steps.{closed}
 use Rattle.declare.proofs.Sweeps.{Swept, swept-none, swept-again, swept-skip, swept-all}
 use Rattle.declare.specs.Rules.{noComparison, noCondition, noRule}
+use Rattle.judge.specs.declared.Cell.{Cell}
 use Rattle.judge.specs.Cells.{idleCell, inUse}
-use Rattle.run.specs.Close.{closedAt, closedCells}
+use Rattle.run.specs.Close.{closedCell, closedAt, closedCells}
+use Rattle.run.specs.Queries.{isOpen}
 use Rattle.run.proofs.Places.{closed-past}
+use Rattle.run.proofs.Takes.{closed-decided}
 use borrow.Author.Needs.{needs}
 use Rattle.run.proofs.close.closed_cells.Statement.{statement}
 use Rattle.run.proofs.close.closed_cells.Tie as tie
@@ -25,17 +36,20 @@ mul-end c = search needs
 loop-holds : tie.Need-loop-holds Inv-loop μ-loop
 loop-holds c = let all-cells : length (c .args .t3) ≡ 4096 = search needs in (omega arith, all-cells, swept-none _ _)
 
-mul-rule : tie.Need-mul-rule Inv-loop μ-loop
-mul-rule c = search needs
-
-element-copy-out-rule : tie.Need-element-copy-out-rule Inv-loop μ-loop
-element-copy-out-rule c = search needs
-
 mul-c : tie.Need-mul-c Inv-loop μ-loop
 mul-c c = search needs
 
 array-copy-out-c : tie.Need-array-copy-out-c Inv-loop μ-loop
 array-copy-out-c c = search needs
+
+is-open-requires : tie.Need-is-open-requires Inv-loop μ-loop
+is-open-requires c κs = search needs
+
+mul-rule : tie.Need-mul-rule Inv-loop μ-loop
+mul-rule c = search needs
+
+element-copy-out-rule : tie.Need-element-copy-out-rule Inv-loop μ-loop
+element-copy-out-rule c = search needs
 
 closed-cell-requires : tie.Need-closed-cell-requires Inv-loop μ-loop
 closed-cell-requires c κs = search needs
@@ -52,11 +66,35 @@ add-j c = search needs
 loop-less : tie.Need-loop-less Inv-loop μ-loop
 loop-less c = search needs
 
+-- what is not open stays as it is
+kept : (t : Table) (count j : ℕ) (c : Cell) → isOpen (c .standing) ≡ false → closedAt t count j c ≡ c
+unfolding closedAt closedCell
+kept t count j c h = go (inUse (t .count) count j)
+  where
+    go : (used : Bool) → cond used (record { standing = closed (getD (t .rules) (j / 256) noRule) (c .standing) }) c ≡ c
+    go true = ap (λ (s : Standing). record { standing = s }) (closed-decided (getD (t .rules) (j / 256) noRule) (c .standing) h)
+    go false = refl
+
+-- the cells at the end of the turn
+now : (t : Table) (count : ℕ) (l a b : List Cell) (j : ℕ) → b ≡ a → Swept (closedAt t count) l a j → Swept (closedAt t count) l b j
+now t count l a b j e s = subst (λ (u : List Cell). Swept (closedAt t count) l u j) (sym e) s
+
+-- no store, where the element stays as it is
+swept-kept : {f : ℕ → Cell → Cell} {l a : List Cell} {j : ℕ} → Swept f l a j → (d : Cell) → j < length l → f j (getD a j d) ≡ getD a j d → Swept f l a (j + 1)
+swept-kept {f} {l} {a} {j} s d h e = subst (λ (t : List Cell). Swept f l t (j + 1)) (set-getD a j d) (swept-again s d h (sym e))
+
 loop-again : tie.Need-loop-again Inv-loop μ-loop
 unfolding closedAt inUse noRule noCondition noComparison
 loop-again c =
     let l = c .before .before .before .before .loop in
-    (omega arith, l .inv .1, swept-again (l .inv .2) idleCell (omega arith) (c .closed-cell .ensures))
+    let a = c .before .before .before .before .before .args in (
+      omega arith,
+      l .inv .1,
+      ⊎-elim
+          (λ w. now (a .t1) (a .count) _ _ _ (l .j + 1) (w .3) (swept-again (l .inv .2) idleCell (omega arith) (w .2 .ensures)))
+          (λ w. now (a .t1) (a .count) _ _ _ (l .j + 1) (w .1) (swept-kept (l .inv .2) idleCell (omega arith) (kept (a .t1) (a .count) (l .j) _ (sym (c .before .is-open .ensures) ∙ w .0 .left))))
+          (c .if1 .came),
+    )
 
 returns : tie.Need-returns Inv-loop μ-loop
 unfolding closedCells
@@ -72,10 +110,11 @@ closed-cells-spec =
     μ-loop
     mul-end
     loop-holds
-    mul-rule
-    element-copy-out-rule
     mul-c
     array-copy-out-c
+    is-open-requires
+    mul-rule
+    element-copy-out-rule
     closed-cell-requires
     mul-cells
     array-set-from-cells

@@ -1,23 +1,37 @@
--- The loop has tested the places passed; the definition goes row by row.
-use mathlib.Core.Path.{_≡_, ap, _∙_}
-use Prim.Native.Nat.{_≤_, _-_, _+_, _*_, _%_}
+-- No place that was passed is invalid; the definition goes row by row.
+use mathlib.Core.Path.{_≡_, sym, ap, _∙_}
+use mathlib.Core.Bool.{Bool, true, false}
+use mathlib.Core.List.{List}
+use Prim.Native.Nat.{ℕ, _≤_, _<_, _-_, _+_, _*_, _%_}
 use native.Mathlib.Omega.{arith}
+use borrow.Author.Tests.{not-true, not-false}
 use lib.ListN.{getD}
 use Rattle.declare.specs.Lists.{allBelow}
+use Rattle.declare.proofs.Booleans.{fails}
 use Rattle.declare.proofs.Sweeps.{all-none, all-again}
+use Rattle.judge.specs.declared.Cell.{Cell}
 use Rattle.judge.specs.Cells.{idleCell}
-use Rattle.run.specs.Records.{validAt}
+use Rattle.run.specs.Records.{validAt, validStandings}
+use Rattle.run.proofs.Lists.{all-each}
 use Rattle.run.proofs.Checks.{flat-standings}
 use borrow.Author.Needs.{needs}
 use Rattle.run.proofs.record.valid_standings.Statement.{statement}
 use Rattle.run.proofs.record.valid_standings.Tie as tie
 
+-- the cell at place i may stand there
+abbrev valid : Bool → ℕ → List Cell → ℕ → Bool
+valid closed count cells i = validAt closed count (i % 256 + 1) ((getD cells i idleCell) .standing)
+
 abbrev Inv-loop : tie.InvT-loop
-Inv-loop closed rules count cells end valid₀ j₀ valid j =
-    (j ≤ rules * 256) × (valid ≡ allBelow (λ i. validAt closed count (i % 256 + 1) ((getD cells i idleCell) .standing)) j)
+Inv-loop closed rules count cells end j₀ j = (j ≤ rules * 256) × (true ≡ allBelow (valid closed count cells) j)
 
 abbrev μ-loop : tie.MeasureT-loop
-μ-loop closed rules count cells end valid₀ j₀ valid j = rules * 256 - j
+μ-loop closed rules count cells end j₀ j = rules * 256 - j
+
+one-invalid : (closed : Bool) (rules count : ℕ) (cells : List Cell) (j : ℕ) → j < rules * 256 → valid closed count cells j ≡ false → false ≡ validStandings closed rules count cells
+one-invalid closed rules count cells j h e =
+    sym (fails (allBelow (valid closed count cells) (rules * 256)) (λ a. all-each (valid closed count cells) (rules * 256) a j h) e)
+    ∙ flat-standings closed rules count cells
 
 mul-end : tie.Need-mul-end Inv-loop μ-loop
 mul-end c = search needs
@@ -34,6 +48,9 @@ array-copy-out-c c = search needs
 valid-at-requires : tie.Need-valid-at-requires Inv-loop μ-loop
 valid-at-requires c κs = search needs
 
+returns : tie.Need-returns Inv-loop μ-loop
+returns c = one-invalid _ _ _ _ _ (omega arith) (sym (c .before .valid-at .ensures) ∙ not-true _ (c .if1 .taken))
+
 add-j : tie.Need-add-j Inv-loop μ-loop
 add-j c = search needs
 
@@ -41,10 +58,10 @@ loop-less : tie.Need-loop-less Inv-loop μ-loop
 loop-less c = search needs
 
 loop-again : tie.Need-loop-again Inv-loop μ-loop
-loop-again c = (omega arith, all-again _ _ (c .before .before .before .loop .inv .1) (c .valid-at .ensures))
+loop-again c = (omega arith, all-again _ _ (c .before .before .before .before .loop .inv .1) (sym (not-false _ (c .if1 .left)) ∙ c .before .valid-at .ensures))
 
-returns : tie.Need-returns Inv-loop μ-loop
-returns c =
+returns-2 : tie.Need-returns-2 Inv-loop μ-loop
+returns-2 c =
     let a = c .before .before .args in
     let whole : c .before .loop .j ≡ a .rules * 256 = omega arith in
     c .before .loop .inv .1 ∙ ap (allBelow _) whole ∙ flat-standings (a .closed) (a .rules) (a .count) (a .t4)
@@ -60,7 +77,8 @@ valid-standings-spec =
     mul-c
     array-copy-out-c
     valid-at-requires
+    returns
     add-j
     loop-less
     loop-again
-    returns)
+    returns-2)

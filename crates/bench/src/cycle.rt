@@ -1,0 +1,119 @@
+// The calls of a running cycle.
+use crate::weight;
+use declare::Event;
+use declare::Standing;
+use declare::Table;
+use judge::Cell;
+use judge::cells::judge_cells;
+use run::Run;
+
+// The run of a table that has taken the first n events.
+fn taken(table: Table, events: [Event; 256], n: usize) -> Run {
+    let step = Run::start(table);
+    let mut run = step.run;
+    for p in 0..n {
+        if 256 <= p {
+            return run;
+        }
+        let event = events[p];
+        let step = run.take(event);
+        run = step.run;
+    }
+    run
+}
+
+// The same run, judged at once.
+fn judged(table: Table, events: [Event; 256], n: usize) -> Run {
+    let idle = Cell {
+        standing: Standing::Idle,
+    };
+    let cells = [idle; 4096];
+    let rules = table.rules;
+    let last = event_at(events, less_one(n));
+    let standings = judge_cells(true, rules, table.count, events, n, last.time, cells);
+    Run {
+        closed: false,
+        table: table,
+        count: n,
+        events: events,
+        cells: standings,
+    }
+}
+
+fn takes(run: Run, event: Event, turns: usize) -> u64 {
+    let mut sum: u64 = 0;
+    for i in 0..turns {
+        let step = run.take(event);
+        let a = step.answer;
+        sum = weight::joined(sum, weight::of_answer(a));
+        sum = weight::joined(sum, weight::of_run(step.run));
+    }
+    sum
+}
+
+fn closes(run: Run, turns: usize) -> u64 {
+    let mut sum: u64 = 0;
+    for i in 0..turns {
+        let step = run.close();
+        let a = step.answer;
+        sum = weight::joined(sum, weight::of_answer(a));
+        sum = weight::joined(sum, weight::of_run(step.run));
+    }
+    sum
+}
+
+fn cycles(table: Table, events: [Event; 256], n: usize, turns: usize) -> u64 {
+    let mut sum: u64 = 0;
+    for i in 0..turns {
+        let run = taken(table, events, n);
+        let step = run.close();
+        let end = step.run;
+        let cells = end.cells;
+        sum = weight::joined(sum, weight::of_cells(cells));
+    }
+    sum
+}
+
+fn standings(run: Run, turns: usize) -> u64 {
+    let mut sum: u64 = 0;
+    for i in 0..turns {
+        let a = run.standing(i % 16 + 1, i % 256 + 1);
+        sum = weight::joined(sum, weight::of_asked(a));
+    }
+    sum
+}
+
+fn totals(run: Run, turns: usize) -> u64 {
+    let mut sum: u64 = 0;
+    for i in 0..turns {
+        let a = run.totals(i % 16 + 1);
+        sum = weight::joined(sum, weight::of_totals(a));
+    }
+    sum
+}
+
+fn less_one(x: usize) -> usize {
+    if 0 < x { x - 1 } else { 0 }
+}
+
+fn event_at(events: [Event; 256], p: usize) -> Event {
+    if p < 256 { events[p] } else { events[0] }
+}
+
+pub fn measured(letter: u8, turns: usize, rules: &[u8], cycle: &[u8]) -> u64 {
+    let read = cycle_text::read_cycle(cycle);
+    let events = read.events;
+    let n = read.count;
+    let table = rule_text::read_rules(rules).table;
+    match letter {
+        b't' => takes(
+            judged(table, events, less_one(n)),
+            event_at(events, less_one(n)),
+            turns,
+        ),
+        b'c' => cycles(table, events, n, turns),
+        b'x' => closes(judged(table, events, n), turns),
+        b's' => standings(judged(table, events, n), turns),
+        _ => totals(judged(table, events, n), turns),
+    }
+}

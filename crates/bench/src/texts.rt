@@ -1,0 +1,72 @@
+// The readers of texts.
+use crate::input;
+use crate::weight;
+use cycle_text::CycleRead;
+use notebook::Notebook;
+
+fn wide(x: u32) -> u64 {
+    x as u64
+}
+
+fn of_read(read: CycleRead) -> u64 {
+    let events = read.events;
+    let last = events[255];
+    wide(last.time)
+}
+
+pub fn readings(cycle: &[u8], turns: usize) -> u64 {
+    let mut sum: u64 = 0;
+    for i in 0..turns {
+        let read = cycle_text::read_cycle(cycle);
+        sum = weight::joined(sum, of_read(read));
+    }
+    sum
+}
+
+// The notebooks of all cycles, once.
+fn all_notebooks(rules: &[u8], rest: &[u8], cycles: usize) -> u64 {
+    let mut sum: u64 = 0;
+    let mut at = 0;
+    for k in 0..cycles {
+        let cycle = input::cycle_of(line::part_from(rest, at));
+        let book = notebook::read_notebook(rules, cycle);
+        sum = weight::joined(sum, weight::of_run(book.run));
+        at = input::next_at(rest, at);
+    }
+    sum
+}
+
+pub fn notebooks(rules: &[u8], rest: &[u8], cycles: usize, turns: usize) -> u64 {
+    let mut sum: u64 = 0;
+    for i in 0..turns {
+        sum = weight::joined(sum, all_notebooks(rules, rest, cycles));
+    }
+    sum
+}
+
+fn of_book(book: Notebook) -> u64 {
+    let run = book.run;
+    let cells = run.cells;
+    weight::of_cells(cells)
+}
+
+// The notebooks of all cycles, every cell looked at.
+fn all_checks(rules: &[u8], rest: &[u8], cycles: usize) -> u64 {
+    let mut sum: u64 = 0;
+    let mut at = 0;
+    for k in 0..cycles {
+        let cycle = input::cycle_of(line::part_from(rest, at));
+        let book = notebook::read_notebook(rules, cycle);
+        sum = weight::joined(sum, of_book(book));
+        at = input::next_at(rest, at);
+    }
+    sum
+}
+
+pub fn checks(rules: &[u8], rest: &[u8], cycles: usize, turns: usize) -> u64 {
+    let mut sum: u64 = 0;
+    for i in 0..turns {
+        sum = weight::joined(sum, all_checks(rules, rest, cycles));
+    }
+    sum
+}
