@@ -1,5 +1,5 @@
 -- Laws for loops over the places of a list: one turn more of a test of all, of a count, and of a list changed from the front.
-use mathlib.Core.Path.{_≡_, refl, sym, ap, ap₂, _∙_}
+use mathlib.Core.Path.{_≡_, refl, sym, ap, ap₂, subst, _∙_}
 use mathlib.Core.Bool.{Bool, true, false, _&&_}
 use mathlib.Core.List.{List, [], _∷_}
 use Prim.Native.Nat.{ℕ, zero, suc, _+_, _≤_, _<_, zero-le}
@@ -7,6 +7,7 @@ use native.Mathlib.Nat.{not-suc-le-zero, le-of-suc-le-suc, zero-add}
 use native.Mathlib.Numerals.{add-one}
 use native.Mathlib.Omega.{arith}
 use lib.ListN.{length, getD, set}
+use lib.Seq.{set-getD}
 use Rattle.declare.specs.Lists.{allBelow, countBelow, bit, mapFrom}
 
 pub all-none : (p : ℕ → Bool) → true ≡ allBelow p 0
@@ -88,6 +89,10 @@ module _ {A : Type 0} {f : ℕ → A → A} {l a : List A} {j : ℕ} (s : Swept 
   -- a store at j of f j at the element there
   pub swept-again : (d : A) {v : A} → j < length l → v ≡ f j (getD a j d) → Swept f l (set a j v) (j + 1)
   swept-again d {v} h e = record { sweep = rw (add-one, e, swept-at d) (ap₂ (λ (t : List A) (i : ℕ). set t j (f i (getD l j d))) (s .sweep) (sym (zero-add j)) ∙ sweep-turn f 0 j l d h) }
+
+  -- no store, where f leaves the element as it is
+  pub swept-kept : (d : A) → j < length l → f j (getD a j d) ≡ getD a j d → Swept f l a (j + 1)
+  swept-kept d h e = subst (λ (t : List A). Swept f l t (j + 1)) (set-getD a j d) (swept-again d h (sym e))
 
   pub swept-all : length l ≤ j → a ≡ mapFrom f 0 l
   swept-all h = s .sweep ∙ sweep-map f 0 j l h

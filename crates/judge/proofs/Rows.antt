@@ -11,19 +11,27 @@ use lib.ListN.{length, getD, take, replicate, length-replicate}
 use lib.Seq.{take-all}
 use Rattle.declare.specs.declared.Event.{Event}
 use Rattle.declare.specs.declared.Rule.{Rule}
+use Rattle.declare.specs.declared.Standing.{Standing}
+use Rattle.declare.specs.declared.Standing.the-variants.{Idle}
 use Rattle.declare.specs.Lists.{mapFrom}
 use Rattle.declare.specs.Events.{noEvent, eventAt}
 use Rattle.declare.specs.Rules.{noRule}
 use Rattle.declare.specs.Suits.{isActivation, activationAt}
+use Rattle.declare.specs.Steps.{carried}
 use Rattle.declare.proofs.Sweeps.{getD-map-from, map-from-same}
 use Rattle.judge.specs.declared.Cell.{Cell}
 use Rattle.judge.specs.Cells.{inUse, judged, cellAfter, judgedCell, judgedCells}
 use Rattle.judge.specs.Columns.{eventIn, eventsIn, Shows}
 use Rattle.judge.specs.Flags.{flagged, flagIn}
 use Rattle.judge.specs.Ready.{Ready}
-use Rattle.judge.proofs.Activations.{flagged-used}
+use Rattle.judge.proofs.Activations.{flagged-used, flag-tells}
+use Rattle.judge.proofs.Judged.{idle-here}
 use Rattle.judge.proofs.ByColumn.{events-at, shown-events}
 use Rattle.judge.proofs.Places.{in-use}
+
+carried-idle : (s t : Standing) → s ≡ Idle → carried s t ≡ t
+unfolding carried
+carried-idle s t e = ap (λ (x : Standing). carried x t) e
 
 -- ---- what is handed over
 
@@ -69,6 +77,20 @@ module _ (times activities : List ℕ) (rs : List ℤ) (flags : List Bool) (rule
   cell-is running h c long =
       rw (in-use count n j (omega arith) low)
       (ap (λ (es : List Event). cellAfter running (getD rules (j / 256) noRule) es h (j % 256 + 1) c) (shown-events times activities rs events n long shows))
+
+  -- an idle cell of an event that is no activation stays
+  pub idle-stays : getD flags j false ≡ false → (running : Bool) (h : ℕ) (c : Cell) → n ≤ length events → c .standing ≡ Idle → judgedCell running rules count events n h j c ≡ c
+  unfolding cellAfter
+  idle-stays off running h c long e = sym (cell-is running h c long) ∙ stays
+    where
+      place : j - j % 256 + j % 256 ≡ j
+      place = omega arith
+
+      here : Idle ≡ judged running (getD rules (j / 256) noRule) (eventsIn times activities rs n) h (j % 256 + 1)
+      here = idle-here ready-at (flag-tells ready-at ∙ ap (λ (i : ℕ). getD flags i false) place ∙ off) running h
+
+      stays : cellAfter running (getD rules (j / 256) noRule) (eventsIn times activities rs n) h (j % 256 + 1) c ≡ c
+      stays = ap (λ (s : Standing). record { standing = s }) (carried-idle (c .standing) _ e ∙ sym here ∙ sym e)
 
 pub cell-unused : (running : Bool) (rules : List Rule) (count : ℕ) (events : List Event) (n h j : ℕ) (c : Cell) → inUse count n j ≡ false → judgedCell running rules count events n h j c ≡ c
 unfolding judgedCell

@@ -1,7 +1,8 @@
 // All standings of a run.
 ghost use mathlib.Core.Path.{_≡_};
 ghost use Prim.Native.Nat.{_+_, _*_, _≤_, _<_, min};
-ghost use mathlib.Core.Bool.{false};
+ghost use mathlib.Core.Bool.{true, false};
+ghost use Rattle.declare.specs.declared.Standing.the-variants.{Idle};
 ghost use lib.ListN.{replicate};
 ghost use Rattle.declare.specs.Lists.{mapFrom};
 ghost use Rattle.judge.specs.Cells.{isDecided, cellAfter, judged, judgedCells};
@@ -29,6 +30,17 @@ fn is_decided(s: Standing) -> bool
         Standing::Open => false,
         Standing::Fulfilled(_) => true,
         Standing::Violated(_) => true,
+    }
+}
+
+fn is_idle(s: Standing) -> bool
+    ensures { λ r. ⌜ (r ≡ true → s ≡ Idle) ⌝ }
+{
+    match s {
+        Standing::Idle => true,
+        Standing::Open => false,
+        Standing::Fulfilled(_) => false,
+        Standing::Violated(_) => false,
     }
 }
 
@@ -134,7 +146,7 @@ fn cell_after<'a>(
     Cell { standing: now }
 }
 
-// The cells of the first `count` rules and n events, row by row.
+// The cells of the first `count` rules and n events, row by row. Most stay idle: those are passed over.
 fn sweep<'a>(
     times: &'a [u32; 256],
     activities: &'a [u8; 256],
@@ -158,6 +170,11 @@ fn sweep<'a>(
         let p = j % 256;
         if p < n {
             let c = out[j];
+            let s = c.standing;
+            if !flags[j] & is_idle(s) {
+                j += 1;
+                continue;
+            }
             let rule = rules[j / 256];
             let act = events[p];
             let next = cell_after(

@@ -1,15 +1,18 @@
 -- The places passed so far are judged; a jump to the next row passes places that are not in use.
 use borrow.Author.Needs.{needs}
 use mathlib.Core.Path.{_≡_, sym, _∙_}
+use mathlib.Core.Bool.{true, false, not}
+use borrow.Author.Tests.{not-true}
+use Rattle.declare.proofs.Booleans.{and₂}
 use Prim.Native.Nat.{_+_, _-_, _*_, _/_, _%_, _≤_, _<_}
 use native.Mathlib.Omega.{arith}
 use lib.ListN.{length, getD}
 use Rattle.declare.specs.Rules.{noRule, noCondition, noComparison}
 use Rattle.declare.specs.Events.{noEvent}
-use Rattle.declare.proofs.Sweeps.{Swept, swept-none, swept-again, swept-skip, swept-all}
+use Rattle.declare.proofs.Sweeps.{Swept, swept-none, swept-again, swept-kept, swept-skip, swept-all}
 use Rattle.judge.specs.Cells.{idleCell, judgedCell, judgedCells}
 use Rattle.judge.proofs.Places.{row-rest, rules-rest}
-use Rattle.judge.proofs.Rows.{ready-at, cell-is, cell-unused}
+use Rattle.judge.proofs.Rows.{ready-at, cell-is, idle-stays, cell-unused}
 use Rattle.judge.proofs.cells.sweep.Statement.{statement}
 use Rattle.judge.proofs.cells.sweep.Tie as tie
 
@@ -31,6 +34,32 @@ mul-c c = search needs
 array-copy-out-c : tie.Need-array-copy-out-c Inv-loop μ-loop
 array-copy-out-c c = search needs
 
+element-copy-out-if2 : tie.Need-element-copy-out-if2 Inv-loop μ-loop
+element-copy-out-if2 c = search needs
+
+is-idle-requires : tie.Need-is-idle-requires Inv-loop μ-loop
+is-idle-requires c κs = search needs
+
+add-j : tie.Need-add-j Inv-loop μ-loop
+add-j c = search needs
+
+loop-less : tie.Need-loop-less Inv-loop μ-loop
+loop-less c = search needs
+
+loop-again : tie.Need-loop-again Inv-loop μ-loop
+loop-again c =
+    let l = c .before .before .before .before .before .before .loop in
+    let s = c .before .before .before .before .before .before .before in
+    let a = s .args in
+    let full : length (a .cells) ≡ 4096 = search needs in
+    let long : length (a .t8) ≡ 256 = search needs in
+    let fewer : a .n ≤ 256 = s .pre .1 in
+    let both : (not (getD (a .flags .now) (l .j) false) ≡ true) × (c .before .is-idle .result ≡ true) = and₂ (c .if2 .taken) in (
+      omega arith,
+      swept-kept (l .inv .1) idleCell (omega arith)
+          (idle-stays (a .times .now) (a .activities .now) (a .readings .now) (a .flags .now) (a .t6) (a .count) (a .t8) (a .n) (l .j) (s .pre .0) (s .pre .1) (s .pre .2) (s .pre .3) (omega arith) (omega arith) (not-true _ (both .0)) (a .running) (a .horizon) (getD (l .out) (l .j) idleCell) (omega arith) (c .before .is-idle .ensures (both .1))),
+    )
+
 mul-rule : tie.Need-mul-rule Inv-loop μ-loop
 mul-rule c = search needs
 
@@ -48,8 +77,9 @@ sub-cell-after c = search needs
 
 cell-after-requires : tie.Need-cell-after-requires Inv-loop μ-loop
 unfolding noRule noCondition noComparison noEvent
-cell-after-requires c κs = let l = c .before .before .before .before .before .loop in
-    let s = c .before .before .before .before .before .before in
+cell-after-requires c κs =
+    let l = c .before .before .before .before .before .before .before .before .loop in
+    let s = c .before .before .before .before .before .before .before .before .before in
     let a = s .args in
     ready-at (a .times .now) (a .activities .now) (a .readings .now) (a .flags .now) (a .t6) (a .count) (a .t8) (a .n) (l .j) (s .pre .0) (s .pre .1) (s .pre .2) (s .pre .3) (omega arith) (omega arith)
 
@@ -59,16 +89,17 @@ mul-out c = search needs
 array-set-from-out : tie.Need-array-set-from-out Inv-loop μ-loop
 array-set-from-out c = search needs
 
-add-j : tie.Need-add-j Inv-loop μ-loop
-add-j c = search needs
+add-j-2 : tie.Need-add-j-2 Inv-loop μ-loop
+add-j-2 c = search needs
 
-loop-less : tie.Need-loop-less Inv-loop μ-loop
-loop-less c = search needs
+loop-less-2 : tie.Need-loop-less-2 Inv-loop μ-loop
+loop-less-2 c = search needs
 
-loop-again : tie.Need-loop-again Inv-loop μ-loop
+loop-again-2 : tie.Need-loop-again-2 Inv-loop μ-loop
 unfolding noRule noCondition noComparison noEvent
-loop-again c = let l = c .before .before .before .before .before .before .loop in
-    let s = c .before .before .before .before .before .before .before in
+loop-again-2 c =
+    let l = c .before .before .before .before .before .before .before .before .before .loop in
+    let s = c .before .before .before .before .before .before .before .before .before .before in
     let a = s .args in
     let full : length (a .cells) ≡ 4096 = search needs in
     let long : length (a .t8) ≡ 256 = search needs in
@@ -82,14 +113,14 @@ loop-again c = let l = c .before .before .before .before .before .before .loop i
 sub-j : tie.Need-sub-j Inv-loop μ-loop
 sub-j c = search needs
 
-add-j-2 : tie.Need-add-j-2 Inv-loop μ-loop
-add-j-2 c = search needs
+add-j-3 : tie.Need-add-j-3 Inv-loop μ-loop
+add-j-3 c = search needs
 
-loop-less-2 : tie.Need-loop-less-2 Inv-loop μ-loop
-loop-less-2 c = search needs
+loop-less-3 : tie.Need-loop-less-3 Inv-loop μ-loop
+loop-less-3 c = search needs
 
-loop-again-2 : tie.Need-loop-again-2 Inv-loop μ-loop
-loop-again-2 c = let l = c .before .before .loop in
+loop-again-3 : tie.Need-loop-again-3 Inv-loop μ-loop
+loop-again-3 c = let l = c .before .before .loop in
     let a = c .before .before .before .args in
     (omega arith, swept-skip (l .inv .1) _ (omega arith) (λ i b d x. cell-unused _ _ _ _ _ _ i x (row-rest (a .count) (a .n) (l .j) i (omega arith) b d)))
 
@@ -110,6 +141,11 @@ sweep-spec =
     loop-holds
     mul-c
     array-copy-out-c
+    element-copy-out-if2
+    is-idle-requires
+    add-j
+    loop-less
+    loop-again
     mul-rule
     array-copy-out-rule
     mul-act
@@ -118,11 +154,11 @@ sweep-spec =
     cell-after-requires
     mul-out
     array-set-from-out
-    add-j
-    loop-less
-    loop-again
-    sub-j
     add-j-2
     loop-less-2
     loop-again-2
+    sub-j
+    add-j-3
+    loop-less-3
+    loop-again-3
     returns)

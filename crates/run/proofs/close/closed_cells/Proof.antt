@@ -6,12 +6,11 @@ use mathlib.Core.List.{List}
 use mathlib.Core.Logic.{⊎-elim}
 use Prim.Native.Nat.{ℕ, _+_, _*_, _-_, _/_, _≤_, _<_}
 use native.Mathlib.Omega.{arith}
-use lib.ListN.{length, getD, set}
-use lib.Seq.{set-getD}
+use lib.ListN.{length, getD}
 use Rattle.declare.specs.declared.Standing.{Standing}
 use Rattle.declare.specs.declared.Table.{Table}
 use Rattle.declare.specs.Steps.{closed}
-use Rattle.declare.proofs.Sweeps.{Swept, swept-none, swept-again, swept-skip, swept-all}
+use Rattle.declare.proofs.Sweeps.{Swept, swept-none, swept-again, swept-kept, swept-skip, swept-all}
 use Rattle.declare.specs.Rules.{noComparison, noCondition, noRule}
 use Rattle.judge.specs.declared.Cell.{Cell}
 use Rattle.judge.specs.Cells.{idleCell, inUse}
@@ -78,10 +77,6 @@ kept t count j c h = go (inUse (t .count) count j)
 -- the cells at the end of the turn
 now : (t : Table) (count : ℕ) (l a b : List Cell) (j : ℕ) → b ≡ a → Swept (closedAt t count) l a j → Swept (closedAt t count) l b j
 now t count l a b j e s = subst (λ (u : List Cell). Swept (closedAt t count) l u j) (sym e) s
-
--- no store, where the element stays as it is
-swept-kept : {f : ℕ → Cell → Cell} {l a : List Cell} {j : ℕ} → Swept f l a j → (d : Cell) → j < length l → f j (getD a j d) ≡ getD a j d → Swept f l a (j + 1)
-swept-kept {f} {l} {a} {j} s d h e = subst (λ (t : List Cell). Swept f l t (j + 1)) (set-getD a j d) (swept-again s d h (sym e))
 
 loop-again : tie.Need-loop-again Inv-loop μ-loop
 unfolding closedAt inUse noRule noCondition noComparison
