@@ -1,3 +1,5 @@
 -- Laws of the formulas.
+pub mod Shapes
+pub mod Reaches
 pub mod Agreement
 pub mod Letter

@@ -12,7 +12,7 @@ use lib.Signed.{ltZ}
 use mir.Syntax.{w32}
 use mir.Val.{SFits}
 use borrow.Author.Tests.{le-ltb}
-use lib.Seq.{length-take-le, getD-take, getD-set-same, getD-set-other}
+use lib.Seq.{ext-getD, length-take-le, getD-take, getD-set-same, getD-set-other}
 use Rattle.declare.specs.declared.Event.{Event}
 use Rattle.declare.specs.declared.Operand.{Operand}
 use Rattle.declare.specs.declared.Operand.the-variants.{Missing, Exact}
@@ -71,18 +71,9 @@ module _ (times activities : List ℕ) (rs : List ℤ) where
       let z : 0 + i ≡ i = omega arith in
       events-from-at 0 n i l ∙ ap (eventIn times activities rs) z
 
--- lists with the same elements
-pub same-list {ℓ} : {A : Type ℓ} (xs ys : List A) (d : A) → length xs ≡ length ys → ((i : ℕ) → i < length xs → getD xs i d ≡ getD ys i d) → xs ≡ ys
-same-list [] [] d l f = refl
-same-list [] (y ∷ ys) d l f = absurd (omega arith)
-same-list (x ∷ xs) [] d l f = absurd (omega arith)
-same-list {A = A} (x ∷ xs) (y ∷ ys) d l f =
-    let e : length xs ≡ length ys = omega arith in
-    ap₂ (λ (z : A) (zs : List A). z ∷ zs) (f 0 (omega arith)) (same-list xs ys d e (λ i h. f (suc i) (omega arith)))
-
 pub shown-events : (times activities : List ℕ) (rs : List ℤ) (es : List Event) (n : ℕ) → n ≤ length es → Shows times activities rs es n → eventsIn times activities rs n ≡ take n es
 shown-events times activities rs es n l s =
-    same-list (eventsIn times activities rs n) (take n es) noEvent (events-length times activities rs n ∙ sym (length-take-le n es l)) each
+    ext-getD noEvent (eventsIn times activities rs n) (take n es) (events-length times activities rs n ∙ sym (length-take-le n es l)) each
   where
     each : (i : ℕ) → i < length (eventsIn times activities rs n) → getD (eventsIn times activities rs n) i noEvent ≡ getD (take n es) i noEvent
     each i h =
