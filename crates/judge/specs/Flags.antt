@@ -1,7 +1,9 @@
 -- Which events are activations of which rule, at the places of the cells.
-use mathlib.Core.Bool.{Bool, false, cond}
+use mathlib.Core.Path.{_≡_}
+use mathlib.Core.Bool.{Bool, true, false, cond}
 use mathlib.Core.List.{List}
-use Prim.Native.Nat.{ℕ, _+_, _-_, _/_, _%_}
+use Prim.Native.Nat.{ℕ, _+_, _-_, _/_, _%_, _≤_, _<_}
+use lib.Dec.{eqb}
 use lib.ListN.{getD}
 use Rattle.declare.specs.declared.Event.{Event}
 use Rattle.declare.specs.declared.Rule.{Rule}
@@ -18,3 +20,8 @@ flagged rules count events n j x =
 -- the flag of position j, in the row that begins at place base
 unfoldable pub flagIn : List Bool → ℕ → ℕ → Bool
 flagIn flags base j = getD flags (base + (j - 1)) false
+
+-- q is the first place from p on, below n, of the activity, or past them
+pub record NextPlace (activities : List ℕ) (activity p n q : ℕ) : Type 0 where
+  pub passed : (i : ℕ) → p ≤ i → i < q → eqb (getD activities i 0) activity ≡ false
+  pub found : q < n → (p ≤ q) × (eqb (getD activities q 0) activity ≡ true)

@@ -1,13 +1,10 @@
 // All standings of a run.
 ghost use mathlib.Core.Path.{_≡_};
-ghost use Prim.Native.Nat.{_+_, _*_, _≤_, _<_, min};
-ghost use mathlib.Core.Bool.{true, false};
+ghost use Prim.Native.Nat.{_+_, _≤_, min};
+ghost use mathlib.Core.Bool.{true};
 ghost use Rattle.declare.specs.declared.Standing.the-variants.{Idle};
-ghost use lib.ListN.{replicate};
-ghost use Rattle.declare.specs.Lists.{mapFrom};
 ghost use Rattle.judge.specs.Cells.{isDecided, cellAfter, judged, judgedCells};
-ghost use Rattle.judge.specs.Columns.{eventsIn, Shows};
-ghost use Rattle.judge.specs.Flags.{flagged};
+ghost use Rattle.judge.specs.Columns.{eventsIn};
 ghost use Rattle.judge.specs.Ready.{Ready, Active};
 use crate::Cell;
 use crate::columns::columns_of;
@@ -146,30 +143,30 @@ fn cell_after<'a>(
     Cell { standing: now }
 }
 
-// The cells of the first `count` rules and n events, row by row. Most stay idle: those are passed over.
-fn sweep<'a>(
-    times: &'a [u32; 256],
-    activities: &'a [u8; 256],
-    readings: &'a [i64; 1024],
-    flags: &'a [bool; 4096],
+// The cells after a step: under each of the first `count` rules and for each of the first n events, a decided standing is carried
+// over, and any other follows from the events. In a running cycle further events may come, none before the horizon. Most cells stay
+// idle: those are passed over.
+pub fn judge_cells(
     running: bool,
     rules: [Rule; 16],
     count: usize,
     events: [Event; 256],
     n: usize,
     horizon: u32,
-    cells: [Cell; 4096],
+    mut cells: [Cell; 4096],
 ) -> [Cell; 4096]
-    requires { ⌜ (count ≤ 16) × (n ≤ 256) × Shows (now times) (now activities) (now readings) events n × (now flags ≡ mapFrom (flagged rules count events n) 0 (replicate 4096 false)) ⌝ }
     ensures { λ r. ⌜ r ≡ judgedCells running rules count events n horizon cells ⌝ }
 {
-    let mut out = cells;
-    let end = count * 256;
+    let rows = least(count, 16);
+    let places = least(n, 256);
+    let columns = columns_of(events, places);
+    let flags = flags_of(&columns.activities, rules, rows, events, places);
+    let end = rows * 256;
     let mut j = 0;
     while j < end {
         let p = j % 256;
-        if p < n {
-            let c = out[j];
+        if p < places {
+            let c = cells[j];
             let s = c.standing;
             if !flags[j] & is_idle(s) {
                 j += 1;
@@ -178,12 +175,12 @@ fn sweep<'a>(
             let rule = rules[j / 256];
             let act = events[p];
             let next = cell_after(
-                times,
-                activities,
-                readings,
-                flags,
+                &columns.times,
+                &columns.activities,
+                &columns.readings,
+                &flags,
                 j - p,
-                n,
+                places,
                 running,
                 horizon,
                 rule,
@@ -191,43 +188,11 @@ fn sweep<'a>(
                 act,
                 c,
             );
-            out[j] = next;
+            cells[j] = next;
             j += 1;
         } else {
             j += 256 - p;
         }
     }
-    out
-}
-
-// The cells after a step: under each of the first `count` rules and for each of the first n events, a decided standing is carried
-// over, and any other follows from the events. In a running cycle further events may come, none before the horizon.
-pub fn judge_cells(
-    running: bool,
-    rules: [Rule; 16],
-    count: usize,
-    events: [Event; 256],
-    n: usize,
-    horizon: u32,
-    cells: [Cell; 4096],
-) -> [Cell; 4096]
-    ensures { λ r. ⌜ r ≡ judgedCells running rules count events n horizon cells ⌝ }
-{
-    let rows = least(count, 16);
-    let places = least(n, 256);
-    let columns = columns_of(events, places);
-    let flags = flags_of(rules, rows, events, places);
-    sweep(
-        &columns.times,
-        &columns.activities,
-        &columns.readings,
-        &flags,
-        running,
-        rules,
-        rows,
-        events,
-        places,
-        horizon,
-        cells,
-    )
+    cells
 }
