@@ -35,13 +35,21 @@ carried-idle s t e = ap (λ (x : Standing). carried x t) e
 
 -- ---- what is handed over
 
-module _ (times activities : List ℕ) (rs : List ℤ) (flags : List Bool) (rules : List Rule) (count : ℕ) (events : List Event) (n j : ℕ)
-    (few : count ≤ 16) (high : n ≤ 256) (shows : Shows times activities rs events n) (flagging : flags ≡ mapFrom (flagged rules count events n) 0 (replicate 4096 false)) (used : j < count * 256) (low : j % 256 < n) where
+-- place j is in use, and the columns and the flags are those of the rules and events
+pub record Placed (times activities : List ℕ) (rs : List ℤ) (flags : List Bool) (rules : List Rule) (count : ℕ) (events : List Event) (n j : ℕ) : Type 0 where
+  pub few : count ≤ 16
+  pub high : n ≤ 256
+  pub shows : Shows times activities rs events n
+  pub flagging : flags ≡ mapFrom (flagged rules count events n) 0 (replicate 4096 false)
+  pub used : j < count * 256
+  pub low : j % 256 < n
+
+module _ {times activities : List ℕ} {rs : List ℤ} {flags : List Bool} {rules : List Rule} {count : ℕ} {events : List Event} {n j : ℕ} (placed : Placed times activities rs flags rules count events n j) where
   -- the flag of position k of the row
   flag-is : (k : ℕ) → 1 ≤ k → k ≤ n → flagIn flags (j - j % 256) k ≡ isActivation (getD rules (j / 256) noRule) (getD events (k - 1) noEvent)
   unfolding flagIn
   flag-is k a b =
-      ap (λ (l : List Bool). getD l place false) flagging
+      ap (λ (l : List Bool). getD l place false) (placed .flagging)
       ∙ getD-map-from (flagged rules count events n) 0 (replicate 4096 false) place false (omega (arith, length-replicate 4096 false))
       ∙ flagged-used rules count events n (0 + place) (getD (replicate 4096 false) place false) (in-use count n (0 + place) (omega arith) (omega arith))
       ∙ ap₂ (λ (x y : ℕ). isActivation (getD rules x noRule) (getD events y noEvent)) row column
@@ -58,15 +66,15 @@ module _ (times activities : List ℕ) (rs : List ℤ) (flags : List Bool) (rule
   activation-is : (k : ℕ) → 1 ≤ k → k ≤ n → activationAt (getD rules (j / 256) noRule) (eventsIn times activities rs n) k ≡ isActivation (getD rules (j / 256) noRule) (getD events (k - 1) noEvent)
   unfolding activationAt eventAt
   activation-is k a b =
-      ap (isActivation (getD rules (j / 256) noRule)) (events-at times activities rs n (k - 1) (omega arith) ∙ shows .at (k - 1) (omega arith))
+      ap (isActivation (getD rules (j / 256) noRule)) (events-at times activities rs n (k - 1) (omega arith) ∙ placed .shows .at (k - 1) (omega arith))
 
   pub ready-at : Ready times activities rs flags (j - j % 256) n (getD rules (j / 256) noRule) (j % 256) (getD events (j % 256) noEvent)
   ready-at =
       record {
-        low = low;
-        high = high;
+        low = placed .low;
+        high = placed .high;
         room = omega arith;
-        event = sym (shows .at (j % 256) low);
+        event = sym (placed .shows .at (j % 256) (placed .low));
         flagging = λ k a b. flag-is k a b ∙ sym (activation-is k a b);
       }
 
@@ -75,8 +83,8 @@ module _ (times activities : List ℕ) (rs : List ℤ) (flags : List Bool) (rule
   pub cell-is : (running : Bool) (h : ℕ) (c : Cell) → n ≤ length events → cellAfter running (getD rules (j / 256) noRule) (eventsIn times activities rs n) h (j % 256 + 1) c ≡ judgedCell running rules count events n h j c
   unfolding judgedCell
   cell-is running h c long =
-      rw (in-use count n j (omega arith) low)
-      (ap (λ (es : List Event). cellAfter running (getD rules (j / 256) noRule) es h (j % 256 + 1) c) (shown-events times activities rs events n long shows))
+      rw (in-use count n j (omega arith) (placed .low))
+      (ap (λ (es : List Event). cellAfter running (getD rules (j / 256) noRule) es h (j % 256 + 1) c) (shown-events times activities rs events n long (placed .shows)))
 
   -- an idle cell of an event that is no activation stays
   pub idle-stays : getD flags j false ≡ false → (running : Bool) (h : ℕ) (c : Cell) → n ≤ length events → c .standing ≡ Idle → judgedCell running rules count events n h j c ≡ c

@@ -14,7 +14,7 @@ use Rattle.declare.proofs.Sweeps.{Swept, swept-none, swept-again, swept-kept, s
 use Rattle.judge.specs.Cells.{idleCell, judgedCell, judgedCells}
 use Rattle.judge.proofs.ByColumn.{shown-activities}
 use Rattle.judge.proofs.Places.{row-rest, rules-rest}
-use Rattle.judge.proofs.Rows.{ready-at, cell-is, idle-stays, cell-unused, within-arrays}
+use Rattle.judge.proofs.Rows.{Placed, ready-at, cell-is, idle-stays, cell-unused, within-arrays}
 use Rattle.judge.proofs.cells.judge_cells.Statement.{statement}
 use Rattle.judge.proofs.cells.judge_cells.Tie as tie
 
@@ -45,6 +45,23 @@ mul-end c = search needs
 loop-holds : tie.Need-loop-holds Inv-loop μ-loop
 loop-holds c = (omega arith, swept-none _ _)
 
+-- a place in use
+placed : (c : tie.Then1 Inv-loop μ-loop) → let s = c .before .before .before in
+    let columns = s .before .before .before .columns-of .result in
+    Placed (columns .times) (columns .activities) (columns .readings) (s .flags-of .result) (s .before .before .before .before .before .before .args .t2) (s .before .before .before .before .before .least .result) (s .before .before .before .before .before .before .args .t4) (s .before .before .before .before .least2 .result) (c .before .before .loop .j)
+placed c =
+    let s = c .before .before .before in
+    let places = s .before .before .before .before .least2 in
+    let rows = s .before .before .before .before .before .least in
+    record {
+      few = omega (arith, rows .ensures);
+      high = omega (arith, places .ensures);
+      shows = s .before .before .before .columns-of .ensures;
+      flagging = s .flags-of .ensures;
+      used = c .before .loop-test .taken;
+      low = c .if1 .taken;
+    }
+
 mul-c : tie.Need-mul-c Inv-loop μ-loop
 mul-c c = search needs
 
@@ -65,24 +82,16 @@ loop-less c = search needs
 
 loop-again : tie.Need-loop-again Inv-loop μ-loop
 loop-again c =
-    let at = c .before .before .before .before .before in
-    let l = at .loop in
-    let s = at .before in
-    let columns = s .before .before .before .columns-of in
-    let places = s .before .before .before .before .least2 in
-    let rows = s .before .before .before .before .before .least in
-    let start = s .before .before .before .before .before .before in
+    let here = c .before .before .before in
+    let l = here .before .before .loop in
+    let start = here .before .before .before .before .before .before .before .before .before in
     let a = start .args in
-    let few : rows .result ≤ 16 = omega (arith, rows .ensures) in
-    let high : places .result ≤ 256 = omega (arith, places .ensures) in
-    let used : l .j < rows .result * 256 = c .before .before .before .before .loop-test .taken in
-    let low : l .j % 256 < places .result = c .before .before .before .if1 .taken in
     let full : length (a .t7) ≡ 4096 = search (needs, start .good .1 .1 .1 .1 .1 .1 .0) in
     let long : length (a .t4) ≡ 256 = search (needs, start .good .1 .1 .1 .0) in
-    let both : (not (getD (s .flags-of .result) (l .j) false) ≡ true) × (c .before .is-idle .result ≡ true) = and₂ (c .if2 .taken) in (
+    let both : (not (getD (here .before .before .before .flags-of .result) (l .j) false) ≡ true) × (c .before .is-idle .result ≡ true) = and₂ (c .if2 .taken) in (
       omega arith,
       swept-kept (l .inv .1) idleCell (omega arith)
-          (idle-stays (columns .result .times) (columns .result .activities) (columns .result .readings) (s .flags-of .result) (a .t2) (rows .result) (a .t4) (places .result) (l .j) few high (columns .ensures) (s .flags-of .ensures) used low (not-true _ (both .0)) (a .running) (a .horizon) (getD (l .cells) (l .j) idleCell) (omega arith) (c .before .is-idle .ensures (both .1))),
+          (idle-stays (placed here) (not-true _ (both .0)) (a .running) (a .horizon) (getD (l .cells) (l .j) idleCell) (omega arith) (c .before .is-idle .ensures (both .1))),
     )
 
 mul-rule : tie.Need-mul-rule Inv-loop μ-loop
@@ -102,20 +111,7 @@ sub-cell-after c = search needs
 
 cell-after-requires : tie.Need-cell-after-requires Inv-loop μ-loop
 unfolding noRule noCondition noComparison noEvent
-cell-after-requires c κs =
-    let at = c .before .before .before .before .before .before .before .before .before .before .before .before in
-    let l = at .loop in
-    let s = at .before in
-    let columns = s .before .before .before .columns-of in
-    let places = s .before .before .before .before .least2 in
-    let rows = s .before .before .before .before .before .least in
-    let start = s .before .before .before .before .before .before in
-    let a = start .args in
-    let few : rows .result ≤ 16 = omega (arith, rows .ensures) in
-    let high : places .result ≤ 256 = omega (arith, places .ensures) in
-    let used : l .j < rows .result * 256 = c .before .before .before .before .before .before .before .before .before .before .before .loop-test .taken in
-    let low : l .j % 256 < places .result = c .before .before .before .before .before .before .before .before .before .before .if1 .taken in
-    ready-at (columns .result .times) (columns .result .activities) (columns .result .readings) (s .flags-of .result) (a .t2) (rows .result) (a .t4) (places .result) (l .j) few high (columns .ensures) (s .flags-of .ensures) used low
+cell-after-requires c κs = ready-at (placed (c .before .before .before .before .before .before .before .before .before .before))
 
 mul-cells : tie.Need-mul-cells Inv-loop μ-loop
 mul-cells c = search needs
@@ -132,24 +128,16 @@ loop-less-2 c = search needs
 loop-again-2 : tie.Need-loop-again-2 Inv-loop μ-loop
 unfolding noRule noCondition noComparison noEvent
 loop-again-2 c =
-    let at = c .before .before .before .before .before .before .before .before .before .before .before .before .before in
-    let l = at .loop in
-    let s = at .before in
-    let columns = s .before .before .before .columns-of in
-    let places = s .before .before .before .before .least2 in
-    let rows = s .before .before .before .before .before .least in
-    let start = s .before .before .before .before .before .before in
+    let here = c .before .before .before .before .before .before .before .before .before .before .before in
+    let l = here .before .before .loop in
+    let start = here .before .before .before .before .before .before .before .before .before in
     let a = start .args in
-    let few : rows .result ≤ 16 = omega (arith, rows .ensures) in
-    let high : places .result ≤ 256 = omega (arith, places .ensures) in
-    let used : l .j < rows .result * 256 = c .before .before .before .before .before .before .before .before .before .before .before .before .loop-test .taken in
-    let low : l .j % 256 < places .result = c .before .before .before .before .before .before .before .before .before .before .before .if1 .taken in
     let full : length (a .t7) ≡ 4096 = search (needs, start .good .1 .1 .1 .1 .1 .1 .0) in
     let long : length (a .t4) ≡ 256 = search (needs, start .good .1 .1 .1 .0) in (
       omega arith,
       swept-again (l .inv .1) idleCell (omega arith)
           (c .cell-after .ensures
-          ∙ cell-is (columns .result .times) (columns .result .activities) (columns .result .readings) (s .flags-of .result) (a .t2) (rows .result) (a .t4) (places .result) (l .j) few high (columns .ensures) (s .flags-of .ensures) used low (a .running) (a .horizon) (getD (l .cells) (l .j) idleCell) (omega arith)),
+          ∙ cell-is (placed here) (a .running) (a .horizon) (getD (l .cells) (l .j) idleCell) (omega arith)),
     )
 
 sub-j : tie.Need-sub-j Inv-loop μ-loop
