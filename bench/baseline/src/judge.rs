@@ -1,5 +1,6 @@
 //! The standings of a cycle's positions under its rules.
-//! The algorithm of the library: the rule is bound to the activation once, its reach is one interval, the first event that fits decides.
+//! The algorithm of the library: the rule is bound to the activation once, each of its tests is made a check, its reach is one interval, the
+//! first event that fits decides.
 use crate::types::*;
 
 #[derive(Clone, Copy)]
@@ -7,6 +8,17 @@ struct Test {
     reading: u8,
     operator: Operator,
     against: Option<i64>,
+}
+
+/// What a test answers for a reading below, equal to or above the number that it is held against, and for a blank.
+#[derive(Clone, Copy)]
+struct Check {
+    place: usize,
+    against: i64,
+    below: bool,
+    equal: bool,
+    above: bool,
+    blank: bool,
 }
 
 struct Bound {
@@ -64,6 +76,44 @@ fn passes(e: &Event, t: &Test) -> bool {
     holds(t.operator, reading_of(e, t.reading), t.against)
 }
 
+fn check_of(t: &Test) -> Check {
+    let blank = holds(t.operator, None, t.against);
+    let place = (t.reading as usize).wrapping_sub(1);
+    if place >= 4 {
+        return Check { place: 0, against: 0, below: blank, equal: blank, above: blank, blank };
+    }
+    match t.against {
+        None => {
+            let number = holds(t.operator, Some(0), None);
+            Check { place, against: 0, below: number, equal: number, above: number, blank }
+        }
+        Some(against) => Check {
+            place,
+            against,
+            below: compare(t.operator, 0, 1),
+            equal: compare(t.operator, 0, 0),
+            above: compare(t.operator, 1, 0),
+            blank,
+        },
+    }
+}
+
+fn answers(c: &Check, e: &Event) -> bool {
+    match e.readings[c.place] {
+        Reading::Blank => c.blank,
+        Reading::Value(v) => {
+            let x = v as i64;
+            if x < c.against {
+                c.below
+            } else if x > c.against {
+                c.above
+            } else {
+                c.equal
+            }
+        }
+    }
+}
+
 fn is_activation(rule: &Rule, e: &Event) -> bool {
     e.activity == rule.activation && rule.condition.used().iter().all(|c| passes(e, &test_of(e, c)))
 }
@@ -83,8 +133,8 @@ fn bound_of(rule: &Rule, a: &Event) -> Bound {
     }
 }
 
-fn fits(b: &Bound, e: &Event) -> bool {
-    e.activity == b.target && within(&b.window, b.time.abs_diff(e.time)) && b.tests().iter().all(|t| passes(e, t))
+fn fits(b: &Bound, checks: &[Check], e: &Event) -> bool {
+    e.activity == b.target && within(&b.window, b.time.abs_diff(e.time)) && checks.iter().all(|c| answers(c, e))
 }
 
 fn meets(tests: &[Test], k: u8, v: Option<i64>) -> bool {
@@ -148,8 +198,10 @@ fn judge_activation(running: bool, rule: &Rule, events: &[Event], flags: &[bool]
     let n = events.len();
     let (start, stop) = span_of(rule.code, flags, p);
     let bound = bound_of(rule, &events[p]);
+    let checks = bound.tests.map(|t| check_of(&t));
+    let checks = &checks[..bound.count as usize];
     let end = stop.min(n);
-    let found = (start..end).find(|&q| fits(&bound, &events[q]));
+    let found = (start..end).find(|&q| fits(&bound, checks, &events[q]));
     match found {
         Some(q) => decide(rule.code, (q + 1) as u16),
         None if running && stop > n && can_suit(&bound, horizon) => Standing::Open,
