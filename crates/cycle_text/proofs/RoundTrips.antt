@@ -10,6 +10,7 @@ use lib.ListN.{length, getD, length-append}
 use Rattle.declare.specs.Lists.{all}
 use Rattle.declare.specs.Comparisons.{operandOf}
 use Rattle.declare.specs.Events.{latest, inRange, isActivity, readingsInRange, wellFormed, nonFallingFrom, nonFalling, lastFrom, lastTime}
+use Rattle.declare.specs.Steps.{capacity, Cycle}
 use Rattle.declare.proofs.Booleans.{and₂, and₃, all-append}
 use Rattle.declare.proofs.Extension.{non-falling-parts}
 use Rattle.line.specs.Fields.{LF, tab}
@@ -21,7 +22,7 @@ use Rattle.line.proofs.Joined.{lacks}
 use Rattle.line.proofs.Texts.{Parted, Follow, text-written, text-back, accepted}
 use Rattle.cycle_text.specs.Types.{Event}
 use Rattle.cycle_text.specs.Cycle.{eventOf, inOrder, eventAfter, cycleTextOf}
-use Rattle.cycle_text.specs.Written.{eventFields, eventsText, Sound, RoundTrips}
+use Rattle.cycle_text.specs.Written.{eventFields, eventsText, RoundTrips}
 use Rattle.cycle_text.proofs.Turns.{last-taken}
 
 -- ---- a line that was read
@@ -103,9 +104,9 @@ event-after above fields e h =
 
 -- ---- an accepted text
 
-sound-more : (above : List Event) (fields : List (List ℕ)) (e : Event) → Sound above → eventAfter above fields ≡ Of e → Sound (above ++ (e ∷ []))
-unfolding nonFalling all lastTime nonFallingFrom
-sound-more above fields e s h =
+cycle-more : (above : List Event) (fields : List (List ℕ)) (e : Event) → Cycle above → eventAfter above fields ≡ Of e → Cycle (above ++ (e ∷ []))
+unfolding nonFalling all lastTime nonFallingFrom capacity
+cycle-more above fields e s h =
     let a = event-after above fields e h in
     record {
       most = rw (length-append above (e ∷ [])) (omega (arith, a .room));
@@ -178,10 +179,10 @@ follow above (e ∷ es) f o m =
     )
 
 pub round-trips : RoundTrips
-unfolding cycleTextOf eventsText nonFalling nonFallingFrom all lastFrom lastTime
+unfolding cycleTextOf eventsText nonFalling nonFallingFrom all lastFrom lastTime capacity
 round-trips =
     record {
-      sound = λ text es. accepted eventAfter Sound (record { most = omega arith; formed = refl; order = refl }) sound-more text es;
+      sound = λ text es. accepted eventAfter Cycle (record { most = omega arith; formed = refl; order = refl }) cycle-more text es;
       read = λ es s. text-written eventAfter eventFields es (follow [] es (s .formed) (s .order) (omega (arith, s .most)));
       again = λ text es. text-back eventAfter eventFields (λ above fields e h. read-fields fields e (event-after above fields e h .line)) text es;
     }

@@ -2,7 +2,6 @@
 ghost use mathlib.Core.Path.{_≡_};
 ghost use Prim.Native.Nat.{_+_};
 ghost use lib.ListN.{length};
-ghost use Rattle.declare.specs.Events.{emptySlot};
 ghost use Rattle.line.specs.Fields.{LF, tab, indexOf, before, split};
 ghost use Rattle.line.specs.Texts.{lineOf};
 ghost use Rattle.cycle_text.specs.Cycle.{eventOf, cycleTextOf};
@@ -10,6 +9,7 @@ ghost use Rattle.cycle_text.specs.Reads.{eventRead, furtherReadings, rec
 use declare::Event;
 use declare::Reading;
 use declare::Refusal;
+use declare::slots::empty_slot;
 use line::NumberAnswer;
 use line::Outcome;
 use line::ReadingAnswer;
@@ -118,19 +118,6 @@ pub struct CycleRead {
     pub outcome: Outcome,
     pub count: usize,
     pub events: [Event; 256],
-}
-
-fn empty_slot() -> Event
-    ensures { λ r. ⌜ r ≡ emptySlot ⌝ }
-{
-    Event {
-        time: 0,
-        activity: 1,
-        reading1: Reading::Blank,
-        reading2: Reading::Blank,
-        reading3: Reading::Blank,
-        reading4: Reading::Blank,
-    }
 }
 
 // A refused text has no events.

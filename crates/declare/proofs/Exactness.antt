@@ -20,7 +20,8 @@ use Rattle.declare.specs.Templates.{polarityOf}
 use Rattle.declare.specs.Verdicts.{eligible, target, decided, verdict}
 use Rattle.declare.specs.Continuations.{continuation}
 use Rattle.declare.specs.Reachability.{canCome, undecided, standing}
-use Rattle.declare.specs.Exactness.{isFulfilled, isViolated, InEvery, InSome, Exact, Exactness, IdleElsewhere}
+use Rattle.declare.specs.Standings.{isOpen, isFulfilled, isViolated}
+use Rattle.declare.specs.Exactness.{InEvery, InSome, Exact, Exactness, IdleElsewhere}
 use Rattle.declare.proofs.Booleans.{and₂, fails}
 use Rattle.declare.proofs.Positions.{first-same, first-stays, first-none, first-here}
 use Rattle.declare.proofs.Extension.{activation-same, eligible-same}
@@ -80,21 +81,14 @@ standing-is r es h i act = rw act
 
 -- a verdict is not both
 not-both : (s : Standing) → isFulfilled s ≡ true → isViolated s ≡ true → ⊥
-unfolding isFulfilled isViolated
 not-both Idle a b = false≢true a
 not-both Open a b = false≢true a
 not-both (Fulfilled j) a b = false≢true b
 not-both (Violated j) a b = false≢true a
 
-unfoldable pub isOpen : Standing → Bool
-isOpen Idle = false
-isOpen Open = true
-isOpen (Fulfilled j) = false
-isOpen (Violated j) = false
-
 -- a target decides one way or the other
 pub fulfilled-or-violated : (p : Polarity) (j : ℕ) (s : Standing) → s ≡ decided p j → (s ≡ Open → ⊥) × (s ≡ Idle → ⊥)
-unfolding decided isFulfilled isViolated
+unfolding decided
 fulfilled-or-violated Positive zero s e = ((λ o. false≢true (ap isViolated (sym o ∙ e))), (λ o. false≢true (ap isViolated (sym o ∙ e))))
 fulfilled-or-violated Positive (suc j) s e = ((λ o. false≢true (ap isFulfilled (sym o ∙ e))), (λ o. false≢true (ap isFulfilled (sym o ∙ e))))
 fulfilled-or-violated Negative zero s e = ((λ o. false≢true (ap isFulfilled (sym o ∙ e))), (λ o. false≢true (ap isFulfilled (sym o ∙ e))))
@@ -130,12 +124,11 @@ module _ (r : Rule) (es : List Event) (h i : ℕ) (valid : validRule r ≡ true)
       where
         go : (p : Polarity) → verdict r (es ++ []) i ≡ decided p 0 → verdict r (es ++ added) i ≡ decided p (suc (length es)) → InSome isFulfilled r es h i × InSome isViolated r es h i
         go Positive a b =
-            unfold decided isFulfilled isViolated in ((added, coming-continues r es h i valid (o-parts .1), ap isFulfilled b), ([], none-added h, ap isViolated a))
+            unfold decided in ((added, coming-continues r es h i valid (o-parts .1), ap isFulfilled b), ([], none-added h, ap isViolated a))
         go Negative a b =
-            unfold decided isFulfilled isViolated in (([], none-added h, ap isFulfilled a), (added, coming-continues r es h i valid (o-parts .1), ap isViolated b))
+            unfold decided in (([], none-added h, ap isFulfilled a), (added, coming-continues r es h i valid (o-parts .1), ap isViolated b))
 
     exact-open : standing r es h i ≡ Open → Exact r es h i
-    unfolding isFulfilled isViolated
     exact-open e =
         record {
           fulfilled = ((λ k. absurd (false≢true (rw e at k))), (λ f. absurd (not-both (verdict r (es ++ two .1 .0) i) (f (two .1 .0) (two .1 .1)) (two .1 .2))));
@@ -169,7 +162,7 @@ exactness r es h i valid well falls past low high act = exact-by r es h i valid 
 -- ---- idle
 
 pub idle-elsewhere : IdleElsewhere
-unfolding standing isOpen
+unfolding standing
 idle-elsewhere r es h i =
     ((λ e. go (activationAt r es i) refl e), (λ n. rw n))
   where

@@ -19,11 +19,12 @@ use Rattle.declare.specs.Templates.{polarityOf}
 use Rattle.declare.specs.Verdicts.{eligible, target, decided, verdict}
 use Rattle.declare.specs.Continuations.{horizon, continuation}
 use Rattle.declare.specs.Reachability.{canCome, undecided, standing}
-use Rattle.declare.specs.Steps.{carried, closing, closed, capacity, isTaken, takenAfter, taken}
+use Rattle.declare.specs.Standings.{isOpen}
+use Rattle.declare.specs.Steps.{carried, closing, closed, capacity, Cycle, isTaken, takenAfter, taken}
 use Rattle.declare.proofs.Booleans.{and-left, and₂, and₃, both, fails, all-append}
 use Rattle.declare.proofs.Extension.{activation-same, non-falling-parts, last-parts, later-start}
 use Rattle.declare.proofs.Arrival.{continuation-parts, comes, coming, coming-continues, coming-eligible}
-use Rattle.declare.proofs.Exactness.{isOpen, target-kept}
+use Rattle.declare.proofs.Exactness.{target-kept}
 
 -- ---- closing
 
@@ -93,7 +94,7 @@ module _ (r : Rule) (es added : List Event) (h later i : ℕ) (valid : validRule
 
   -- what is not open stays as it is
   pub standing-kept : isOpen (standing r es h i) ≡ false → standing r (es ++ added) later i ≡ standing r es h i
-  unfolding standing isOpen
+  unfolding standing
   standing-kept o = go (activationAt r es i) refl (undecided r es h i) refl o
     where
       go : (a : Bool) → activationAt r es i ≡ a → (t : Bool) → undecided r es h i ≡ t → isOpen (cond a (cond t Open (decided (polarityOf r) (target r es i))) Idle) ≡ false → standing r (es ++ added) later i ≡ cond a (cond t Open (decided (polarityOf r) (target r es i))) Idle
@@ -105,7 +106,7 @@ module _ (r : Rule) (es added : List Event) (h later i : ℕ) (valid : validRule
 
   -- carried over or judged anew, it is what the events say
   pub carried-standing : carried (standing r es h i) (standing r (es ++ added) later i) ≡ standing r (es ++ added) later i
-  unfolding carried isOpen
+  unfolding carried
   carried-standing = go (standing r es h i) refl
     where
       go : (s : Standing) → standing r es h i ≡ s → carried s (standing r (es ++ added) later i) ≡ standing r (es ++ added) later i
@@ -116,15 +117,9 @@ module _ (r : Rule) (es added : List Event) (h later i : ℕ) (valid : validRule
 
 -- ---- the events that are taken
 
--- a list that takes can make
-pub record Cycle (es : List Event) : Type 0 where
-  pub well : all wellFormed es ≡ true
-  pub falls : nonFalling es ≡ true
-  pub few : length es ≤ capacity
-
 pub empty-cycle : Cycle []
 unfolding all nonFalling nonFallingFrom
-empty-cycle = record { well = refl; falls = refl; few = omega arith }
+empty-cycle = record { formed = refl; order = refl; most = omega arith }
 
 pub taken-parts : (es : List Event) (e : Event) → isTaken es e ≡ true → (wellFormed e ≡ true) × (leb (horizon es) (e .time) ≡ true) × (ltb (length es) capacity ≡ true)
 unfolding isTaken
@@ -140,9 +135,9 @@ cycle-taken es e c h =
     let p = taken-parts es e h in
     let l : length es < capacity = ltb-true (length es) capacity (p .2) in
     record {
-      well = all-append wellFormed es (e ∷ []) (c .well) (both (p .0) refl);
-      falls = longer-cycle es (e ∷ []) (horizon es) (c .falls) (unfold horizon in omega arith) (taken-continues es e h);
-      few = simp length-append (omega arith);
+      formed = all-append wellFormed es (e ∷ []) (c .formed) (both (p .0) refl);
+      order = longer-cycle es (e ∷ []) (horizon es) (c .order) (unfold horizon in omega arith) (taken-continues es e h);
+      most = simp length-append (omega arith);
     }
 
 pub cycle-after : (es offered : List Event) → Cycle es → Cycle (takenAfter es offered)

@@ -21,7 +21,7 @@ use Rattle.declare.specs.Templates.{templates, templateOf, inReach, reac
 use Rattle.declare.specs.Verdicts.{eligible, target, decided, verdict}
 use Rattle.declare.specs.Continuations.{horizon, continuation}
 use Rattle.declare.specs.Reachability.{satisfiable}
-use Rattle.declare.specs.Exactness.{isFulfilled, isViolated}
+use Rattle.declare.specs.Standings.{isFulfilled, isViolated}
 use Rattle.declare.specs.Words.{NeverFall, Before, Suits, NoActivationBetween, Eligible, Twelve, SomeEligible, NoneEligible, Names, targetIn, Judged, Satisfiable, Words}
 use Rattle.declare.proofs.Booleans.{and-left, and-right, and₂, and₃, both}
 use Rattle.declare.proofs.Extension.{non-falling-parts}
@@ -242,7 +242,7 @@ module _ (r : Rule) (es : List Event) (i : ℕ) where
   tells-none t a b (suc j) n = ((λ h. absurd (false≢true (sym (b j) ∙ h))), (λ m. absurd (not-both (some j n) m)))
 
   pub judged : activationAt r es i ≡ true → Judged r es i
-  unfolding decided isFulfilled isViolated
+  unfolding decided
   judged act =
       record {
         fulfilled = λ a b. rw (with-polarity (positive (r .code) a b)) (tells-some (λ j. isFulfilled (decided Positive j)) refl (λ j. refl) (target r es i) (named r es i));

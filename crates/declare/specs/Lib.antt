@@ -7,6 +7,7 @@ pub mod Events
 pub mod Rules
 pub mod Suits
 pub mod Templates
+pub mod Standings
 pub mod Verdicts
 pub mod Continuations
 pub mod Reachability

@@ -15,7 +15,7 @@ use Rattle.declare.specs.Suits.{activationAt, between, suits}
 use Rattle.declare.specs.Verdicts.{eligible, target, verdict}
 use Rattle.declare.specs.Continuations.{horizon, continuation}
 use Rattle.declare.specs.Reachability.{satisfiable}
-use Rattle.declare.specs.Exactness.{isFulfilled, isViolated}
+use Rattle.declare.specs.Standings.{isFulfilled, isViolated}
 
 -- "times may repeat but never fall"
 abbrev pub NeverFall : List Event → Type 0

@@ -12,9 +12,9 @@ use Rattle.declare.specs.declared.Standing.the-variants.{Idle}
 use Rattle.declare.specs.Rules.{isTemplate, validHead, validRule, validTable}
 use Rattle.declare.specs.Suits.{activationAt}
 use Rattle.declare.specs.Verdicts.{verdict}
-use Rattle.declare.specs.Steps.{taken}
+use Rattle.declare.specs.Steps.{Cycle, taken}
 use Rattle.declare.proofs.Booleans.{and₃, and₄}
-use Rattle.declare.proofs.Steps.{Cycle, cycle-of-taken}
+use Rattle.declare.proofs.Steps.{cycle-of-taken}
 use Rattle.formula.specs.Agreement.{Activated}
 use Rattle.formula.proofs.Agreement.{fixed-agrees, published-agrees}
 use Rattle.run.specs.declared.Run.{Run}
@@ -24,10 +24,9 @@ use Rattle.run.specs.Close.{closedRun}
 use Rattle.run.specs.Queries.{standingOf}
 use Rattle.run.specs.Takes.{grown, Answers, finished}
 use Rattle.run.proofs.Takes.{rule-valid, takes}
-use Rattle.cycle_text.specs.Written.{Sound as EventsSound}
 use Rattle.cycle_text.proofs.RoundTrips.{round-trips as cycle-trips}
 use Rattle.rule_text.specs.Reads.{tableOf}
-use Rattle.rule_text.specs.Written.{Sound as RulesSound}
+use Rattle.rule_text.specs.Written.{Sound}
 use Rattle.rule_text.proofs.RoundTrips.{round-trips as rules-trips}
 use Rattle.notebook.specs.Notebook.{accepted as readAs, notebookOf}
 use Rattle.notebook.proofs.Tables.{table-slots, table-valid}
@@ -59,7 +58,7 @@ follows t es r slots valid cycle answers =
     activated k i w e =
         record {
           template = valid-code (ruleAt t k) (rule-valid t slots valid es cycle k (w .rule-low) (w .rule-high));
-          falls = cycle .falls;
+          falls = cycle .order;
           low = w .position-low;
           high = w .position-high;
           active = e;
@@ -72,11 +71,11 @@ demand2-grown t offered slots valid =
 pub demand2-read : Demand2Read
 demand2-read rulesText cycleText rules es p q = (closedRun (grown (tableOf rules) es), read, follows (tableOf rules) es (closedRun (grown (tableOf rules) es)) slots valid cycle answers)
   where
-    rules-sound : RulesSound rules
+    rules-sound : Sound rules
     rules-sound = rules-trips .sound rulesText rules p .0
 
-    events-sound : EventsSound es
-    events-sound = cycle-trips .sound cycleText es q
+    cycle : Cycle es
+    cycle = cycle-trips .sound cycleText es q
 
     slots : length (tableOf rules .rules) ≡ 16
     slots = table-slots rules (rules-sound .most)
@@ -84,13 +83,10 @@ demand2-read rulesText cycleText rules es p q = (closedRun (grown (tableOf rules
     valid : validTable (tableOf rules) ≡ true
     valid = table-valid rules rules-sound
 
-    cycle : Cycle es
-    cycle = subst Cycle (taken-cycle es events-sound) (cycle-of-taken es)
-
     answers : Answers (tableOf rules) es (finished es) (closedRun (grown (tableOf rules) es))
     answers =
-        subst (λ (l : List Event). Answers (tableOf rules) l (finished l) (closedRun (grown (tableOf rules) es))) (taken-cycle es events-sound)
+        subst (λ (l : List Event). Answers (tableOf rules) l (finished l) (closedRun (grown (tableOf rules) es))) (taken-cycle es cycle)
         (takes (tableOf rules) es slots valid .closed-answers)
 
     read : notebookOf rulesText cycleText ≡ readAs (closedRun (grown (tableOf rules) es))
-    read = accepted-texts rulesText cycleText rules es p q ∙ ap readAs (finished-is-grown (tableOf rules) slots valid es events-sound)
+    read = accepted-texts rulesText cycleText rules es p q ∙ ap readAs (finished-is-grown (tableOf rules) slots valid es cycle)

@@ -17,10 +17,9 @@ use Rattle.rule_text.specs.Rules.{rulesTextOf}
 use Rattle.declare.specs.Events.{lastTime}
 use Rattle.declare.specs.Rules.{validRule, rulesOf, validTable}
 use Rattle.declare.specs.Continuations.{horizon}
-use Rattle.declare.specs.Steps.{taken}
+use Rattle.declare.specs.Steps.{Cycle, taken}
 use Rattle.declare.proofs.Exactness.{exactness, idle-elsewhere}
-use Rattle.declare.proofs.Steps.{Cycle, cycle-of-taken}
-use Rattle.declare.specs.Steps.{capacity}
+use Rattle.declare.proofs.Steps.{cycle-of-taken}
 use Rattle.declare.specs.Refusals.{number}
 use Rattle.judge.specs.declared.Cell.{Cell}
 use Rattle.judge.specs.Cells.{standingIn}
@@ -33,10 +32,10 @@ use Rattle.run.specs.Queries.{oneOf, totalsBy, standingOf, totalsOf}
 use Rattle.run.specs.Takes.{grown, finished, RunOf, Takes}
 use Rattle.run.proofs.Bounds.{rules-within}
 use Rattle.run.proofs.Takes.{rule-valid, takes}
-use Rattle.cycle_text.specs.Written.{Sound as EventsSound, eventsText}
+use Rattle.cycle_text.specs.Written.{eventsText}
 use Rattle.cycle_text.specs.Reads.{padded}
 use Rattle.cycle_text.proofs.RoundTrips.{round-trips as cycle-trips}
-use Rattle.rule_text.specs.Written.{Sound as RulesSound, rulesText, tidy}
+use Rattle.rule_text.specs.Written.{Sound, rulesText, tidy}
 use Rattle.rule_text.proofs.RoundTrips.{round-trips as rules-trips}
 use Rattle.rule_text.proofs.Tidy.{tidy-verdict}
 use Rattle.notebook.specs.Notebook.{accepted as readAs, notebookOf}
@@ -52,7 +51,7 @@ last-time es = omega arith
 early : (t : Table) (es : List Event) → length (t .rules) ≡ 16 → validTable t ≡ true → Cycle es → EarlyVerdicts t es
 early t es slots valid cycle =
     record {
-      exact = λ k i w e. exactness (ruleAt t k) es (horizon es) i (rule-valid t slots valid es cycle k (w .rule-low) (w .rule-high)) (cycle .well) (cycle .falls) (last-time es) (w .position-low) (w .position-high) e;
+      exact = λ k i w e. exactness (ruleAt t k) es (horizon es) i (rule-valid t slots valid es cycle k (w .rule-low) (w .rule-high)) (cycle .formed) (cycle .order) (last-time es) (w .position-low) (w .position-high) e;
       idle = λ k i w. idle-elsewhere (ruleAt t k) es (horizon es) i;
     }
 
@@ -68,11 +67,7 @@ module _ (q r : Run) (valid-q : validRun q ≡ true) (valid-r : validRun r ≡ t
   unfolding totalsOf
   same-totals k = rw (valid-q, valid-r, rules, events, cells)
 
-sound-events : (es : List Event) → Cycle es → EventsSound es
-unfolding capacity
-sound-events es c = record { most = c .few; formed = c .well; order = c .falls }
-
-sound-rules : (t : Table) → validTable t ≡ true → length (rulesOf t) ≤ 16 → RulesSound (rulesOf t)
+sound-rules : (t : Table) → validTable t ≡ true → length (rulesOf t) ≤ 16 → Sound (rulesOf t)
 unfolding validTable
 sound-rules t v few = record { most = few; valid = and-right (leb (t .count) 16) (all validRule (rulesOf t)) v }
 
@@ -86,13 +81,13 @@ module _ (t : Table) (offered : List Event) (slots : length (t .rules) ≡ 16) (
   few : t .count ≤ 16
   few = rules-within t valid
 
-  events-sound : EventsSound es
-  events-sound = sound-events es (cycle-of-taken offered)
+  cycle : Cycle es
+  cycle = cycle-of-taken offered
 
   read-rules : rulesTextOf (rulesText (rulesOf t)) ≡ All (map tidy (rulesOf t))
   read-rules = rules-trips .read (rulesOf t) (sound-rules t valid (rw (rule-count t slots few) few))
 
-  rules-sound : RulesSound (map tidy (rulesOf t))
+  rules-sound : Sound (map tidy (rulesOf t))
   rules-sound = rules-trips .sound (rulesText (rulesOf t)) (map tidy (rulesOf t)) read-rules .0
 
   u-slots : length (u .rules) ≡ 16
@@ -106,12 +101,12 @@ module _ (t : Table) (offered : List Event) (slots : length (t .rules) ≡ 16) (
 
   reply : notebookOf (rulesText (rulesOf t)) (eventsText es) ≡ readAs read
   reply =
-      accepted-texts (rulesText (rulesOf t)) (eventsText es) (map tidy (rulesOf t)) es read-rules (cycle-trips .read es events-sound)
-      ∙ ap readAs (finished-is-grown u u-slots u-valid es events-sound)
+      accepted-texts (rulesText (rulesOf t)) (eventsText es) (map tidy (rulesOf t)) es read-rules (cycle-trips .read es cycle)
+      ∙ ap readAs (finished-is-grown u u-slots u-valid es cycle)
 
   read-run : RunOf u es true (finished es) read
   read-run =
-      subst (λ (l : List Event). RunOf u l true (finished l) read) (taken-cycle es events-sound) (takes u es u-slots u-valid .closed-run)
+      subst (λ (l : List Event). RunOf u l true (finished l) read) (taken-cycle es cycle) (takes u es u-slots u-valid .closed-run)
 
   closed : RunOf t es true (finished es) (closedRun (grown t offered))
   closed = takes t offered slots valid .closed-run

@@ -46,9 +46,3 @@ judgedCell running rules count events n h j c =
 -- all cells; those not in use stay as they are
 unfoldable pub judgedCells : Bool → List Rule → ℕ → List Event → ℕ → ℕ → List Cell → List Cell
 judgedCells running rules count events n h cells = mapFrom (judgedCell running rules count events n h) 0 cells
-
-unfoldable pub isDecided : Standing → Bool
-isDecided Idle = false
-isDecided Open = false
-isDecided (Fulfilled j) = true
-isDecided (Violated j) = true

@@ -1,9 +1,7 @@
 // All standings of a run.
 ghost use mathlib.Core.Path.{_≡_};
 ghost use Prim.Native.Nat.{_+_, _≤_, min};
-ghost use mathlib.Core.Bool.{true};
-ghost use Rattle.declare.specs.declared.Standing.the-variants.{Idle};
-ghost use Rattle.judge.specs.Cells.{isDecided, cellAfter, judged, judgedCells};
+ghost use Rattle.judge.specs.Cells.{cellAfter, judged, judgedCells};
 ghost use Rattle.judge.specs.Columns.{eventsIn};
 ghost use Rattle.judge.specs.Ready.{Ready, Active};
 use crate::Cell;
@@ -18,28 +16,8 @@ use condition::reachability::can_suit;
 use declare::Event;
 use declare::Rule;
 use declare::Standing;
-
-fn is_decided(s: Standing) -> bool
-    ensures { λ r. ⌜ r ≡ isDecided s ⌝ }
-{
-    match s {
-        Standing::Idle => false,
-        Standing::Open => false,
-        Standing::Fulfilled(_) => true,
-        Standing::Violated(_) => true,
-    }
-}
-
-fn is_idle(s: Standing) -> bool
-    ensures { λ r. ⌜ (r ≡ true → s ≡ Idle) ⌝ }
-{
-    match s {
-        Standing::Idle => true,
-        Standing::Open => false,
-        Standing::Fulfilled(_) => false,
-        Standing::Violated(_) => false,
-    }
-}
+use declare::standings::is_decided;
+use declare::standings::is_idle;
 
 fn least(x: usize, y: usize) -> usize
     ensures { λ r. ⌜ r ≡ min x y ⌝ }

@@ -19,7 +19,7 @@ use Rattle.declare.specs.Events.{wellFormed, nonFalling, nonFallingFrom, lastFr
 use Rattle.declare.specs.Rules.{noRule, validTable}
 use Rattle.declare.specs.Verdicts.{verdict}
 use Rattle.declare.specs.Continuations.{horizon}
-use Rattle.declare.specs.Steps.{capacity, carried, isTaken, takenAfter, taken}
+use Rattle.declare.specs.Steps.{capacity, Cycle, carried, isTaken, takenAfter, taken}
 use Rattle.declare.proofs.Booleans.{and-left, and-right, both₃}
 use Rattle.declare.proofs.Extension.{non-falling-parts}
 use Rattle.declare.proofs.Sweeps.{getD-map-from, length-map-from}
@@ -34,7 +34,6 @@ use Rattle.run.proofs.Takes.{takes}
 use Rattle.run.proofs.Validity.{idle-cells}
 use Rattle.run.proofs.Places.{judged-standing, judged-kept}
 use Rattle.run.proofs.Bounds.{rules-within}
-use Rattle.cycle_text.specs.Written.{Sound}
 use Rattle.cycle_text.specs.Reads.{padded}
 use Rattle.line.specs.Texts.{All}
 use Rattle.cycle_text.specs.Cycle.{cycleTextOf}
@@ -45,14 +44,14 @@ use Rattle.notebook.proofs.Cells.{Filled, SameStandings, same-cells}
 
 -- ---- all events of a cycle are taken
 
-is-taken : (es : List Event) (e : Event) (more : List Event) → Sound (es ++ e ∷ more) → isTaken es e ≡ true
+is-taken : (es : List Event) (e : Event) (more : List Event) → Cycle (es ++ e ∷ more) → isTaken es e ≡ true
 unfolding isTaken horizon nonFalling lastTime capacity
 is-taken es e more s =
     let formed : (wellFormed e && all wellFormed more) ≡ true = unfold all in and-right (all wellFormed es) (all wellFormed (e ∷ more)) (sym (all-parts wellFormed es (e ∷ more)) ∙ s .formed) in
     let order : (leb (lastFrom 0 es) (e .time) && nonFallingFrom (e .time) more) ≡ true = unfold nonFallingFrom in and-right (nonFallingFrom 0 es) (nonFallingFrom (lastFrom 0 es) (e ∷ more)) (sym (non-falling-parts 0 es (e ∷ more)) ∙ s .order) in
     both₃ (and-left (wellFormed e) (all wellFormed more) formed) (and-left (leb (lastFrom 0 es) (e .time)) (nonFallingFrom (e .time) more) order) (lt-ltb (length es) 256 (omega (arith, length-append es (e ∷ more), s .most)))
 
-all-taken : (es more : List Event) → Sound (es ++ more) → takenAfter es more ≡ es ++ more
+all-taken : (es more : List Event) → Cycle (es ++ more) → takenAfter es more ≡ es ++ more
 unfolding takenAfter
 all-taken es [] s = sym (append-nil es)
 all-taken es (e ∷ more) s =
@@ -60,7 +59,7 @@ all-taken es (e ∷ more) s =
     ∙ all-taken (es ++ e ∷ []) more (rw (append-assoc es (e ∷ []) more) s)
     ∙ append-assoc es (e ∷ []) more
 
-pub taken-cycle : (es : List Event) → Sound es → taken es ≡ es
+pub taken-cycle : (es : List Event) → Cycle es → taken es ≡ es
 unfolding taken
 taken-cycle es s = all-taken [] es s
 
@@ -74,7 +73,7 @@ same-run q r a b c d e =
     ∙ ap (λ (x : List Event). record { closed = r .closed; table = r .table; count = r .count; events = x; cells = q .cells }) d
     ∙ ap (λ (x : List Cell). record { closed = r .closed; table = r .table; count = r .count; events = r .events; cells = x }) e
 
-module _ (t : Table) (slots : length (t .rules) ≡ 16) (valid : validTable t ≡ true) (es : List Event) (sound : Sound es) where
+module _ (t : Table) (slots : length (t .rules) ≡ 16) (valid : validTable t ≡ true) (es : List Event) (cycle : Cycle es) where
   abbrev blank : List Cell
   blank = replicate 4096 idleCell
 
@@ -88,7 +87,7 @@ module _ (t : Table) (slots : length (t .rules) ≡ 16) (valid : validTable t �
   -- the closed run of these events
   closed : RunOf t es true (finished es) (closedRun (grown t es))
   closed =
-      subst (λ (l : List Event). RunOf t l true (finished l) (closedRun (grown t es))) (taken-cycle es sound)
+      subst (λ (l : List Event). RunOf t l true (finished l) (closedRun (grown t es))) (taken-cycle es cycle)
       (takes t es slots valid .closed-run)
 
   abbrev cells : List Cell
@@ -103,9 +102,9 @@ module _ (t : Table) (slots : length (t .rules) ≡ 16) (valid : validTable t �
       }
 
   verdicts : (k i : ℕ) → 1 ≤ k → k ≤ t .count → 1 ≤ i → i ≤ length es → standingIn cells k i ≡ verdict (ruleAt t k) es i
-  unfolding finishedRun ruleAt
+  unfolding finishedRun ruleAt capacity
   verdicts k i a b c d =
-      judged-standing blank blank-size k i a (omega (arith, b, rules-within t valid)) c (omega (arith, d, sound .most)) false (t .rules) (t .count) (padded es) (length es) 0 b d
+      judged-standing blank blank-size k i a (omega (arith, b, rules-within t valid)) c (omega (arith, d, cycle .most)) false (t .rules) (t .count) (padded es) (length es) 0 b d
       ∙ ap (λ (s : Standing). carried s (judged false (getD (t .rules) (k - 1) noRule) (take (length es) (padded es)) 0 i)) (idle-cells 4096 k i)
       ∙ unfold carried judged in ap (λ (l : List Event). verdict (getD (t .rules) (k - 1) noRule) l i) first
 

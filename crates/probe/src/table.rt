@@ -8,34 +8,10 @@ use declare::Reference;
 use declare::Rule;
 use declare::Table;
 use declare::Window;
-
-fn empty_condition() -> Condition {
-    let comparison = Comparison {
-        reading: 0,
-        operator: Operator::Equal,
-        reference: Reference::Constant(0),
-    };
-    Condition {
-        count: 0,
-        first: comparison,
-        second: comparison,
-        third: comparison,
-        fourth: comparison,
-    }
-}
+use declare::slots::no_rule;
 
 pub fn empty() -> Table {
-    let rule = Rule {
-        code: 0,
-        activation: 0,
-        target: 0,
-        window: Window {
-            from: 0,
-            until: End::Never,
-        },
-        condition: empty_condition(),
-        correlation: empty_condition(),
-    };
+    let rule = no_rule();
     Table {
         count: 0,
         rules: [rule; 16],

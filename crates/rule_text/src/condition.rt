@@ -3,7 +3,6 @@ ghost use mathlib.Core.Path.{_≡_};
 ghost use mathlib.Core.List.{[], _∷_, _++_};
 ghost use Prim.Native.Nat.{_<_};
 ghost use Rattle.declare.specs.Conditions.{comparisonsOf};
-ghost use Rattle.declare.specs.Rules.{noComparison, noCondition};
 ghost use Rattle.line.specs.Fields.{indexOf, before};
 ghost use Rattle.rule_text.specs.Conditions.{tested, conditionOf, comparisonsField, conditionField};
 ghost use Rattle.rule_text.specs.Reads.{conditionRead};
@@ -12,33 +11,9 @@ use crate::comparison::comparison;
 use crate::field::is_dash;
 use declare::Comparison;
 use declare::Condition;
-use declare::Operator;
-use declare::Reference;
 use declare::Refusal;
-
-// What stands in a slot past the count.
-fn no_comparison() -> Comparison
-    ensures { λ r. ⌜ r ≡ noComparison ⌝ }
-{
-    Comparison {
-        reading: 0,
-        operator: Operator::Equal,
-        reference: Reference::Constant(0),
-    }
-}
-
-pub fn no_condition() -> Condition
-    ensures { λ r. ⌜ r ≡ noCondition ⌝ }
-{
-    let none = no_comparison();
-    Condition {
-        count: 0,
-        first: none,
-        second: none,
-        third: none,
-        fourth: none,
-    }
-}
+use declare::slots::no_comparison;
+use declare::slots::no_condition;
 
 // Whether a comparison is of the reading.
 fn tests(condition: Condition, reading: u8) -> bool

@@ -6,41 +6,20 @@ mod rule; // rule.rt: rule lines
 
 ghost use mathlib.Core.Path.{_≡_};
 ghost use mathlib.Core.List.{[]};
-ghost use Rattle.declare.specs.Rules.{noRule, rulesOf};
+ghost use Rattle.declare.specs.Rules.{rulesOf};
 ghost use Rattle.line.specs.Texts.{recordsRead};
 ghost use Rattle.rule_text.specs.Rules.{rulesTextOf};
 ghost use Rattle.rule_text.specs.Reads.{rulesIn, tableOf};
-use crate::condition::no_condition;
 use crate::rule::RuleAnswer;
 use crate::rule::rule_line;
-use declare::End;
 use declare::Refusal;
-use declare::Rule;
 use declare::Table;
-use declare::Window;
+use declare::slots::no_rule;
 use line::Outcome;
 
 pub struct RulesRead {
     pub outcome: Outcome,
     pub table: Table,
-}
-
-// What stands in a slot past the count.
-fn no_rule() -> Rule
-    ensures { λ r. ⌜ r ≡ noRule ⌝ }
-{
-    let condition = no_condition();
-    Rule {
-        code: 0,
-        activation: 0,
-        target: 0,
-        window: Window {
-            from: 0,
-            until: End::Never,
-        },
-        condition,
-        correlation: condition,
-    }
 }
 
 // A refused text has no rules.

@@ -9,14 +9,13 @@ use lib.ListN.{getD}
 use Rattle.declare.specs.declared.Standing.{Standing}
 use Rattle.declare.specs.declared.Standing.the-variants.{Idle, Open, Fulfilled, Violated}
 use Rattle.declare.specs.Lists.{countBelow, bit}
-use Rattle.declare.specs.Exactness.{isFulfilled, isViolated}
+use Rattle.declare.specs.Standings.{isIdle, isOpen, isFulfilled, isViolated}
 use Rattle.declare.proofs.Sweeps.{count-le}
 use Rattle.judge.specs.declared.Cell.{Cell}
 use Rattle.judge.specs.Cells.{idleCell, standingIn}
 use Rattle.run.specs.declared.Totals.{Totals}
-use Rattle.run.specs.Records.{isIdle}
 use Rattle.run.proofs.Lists.{count-same}
-use Rattle.run.specs.Queries.{isOpen, countOf, totalsBy, withStanding}
+use Rattle.run.specs.Queries.{countOf, totalsBy, withStanding}
 
 pub totals-none : (s : ℕ → Standing) → record { activations = 0; fulfilled = 0; violated = 0; «open» = 0 } ≡ totalsBy s 0
 unfolding totalsBy countOf countBelow
@@ -57,7 +56,6 @@ totals-same s u n f = rw (each (λ x. not (isIdle x)), each isFulfilled, each is
     each p = count-same (λ k. p (s (k + 1))) (λ k. p (u (k + 1))) n (λ k l. ap p (f (k + 1) (omega arith) (omega arith)))
 
 bit-sum : (s : Standing) → bit (not (isIdle s)) ≡ bit (isFulfilled s) + bit (isViolated s) + bit (isOpen s)
-unfolding isFulfilled isViolated
 bit-sum Idle = refl
 bit-sum Open = refl
 bit-sum (Fulfilled j) = refl

@@ -27,18 +27,19 @@ use Rattle.declare.specs.Templates.{polarityOf}
 use Rattle.declare.specs.Verdicts.{target, decided, verdict}
 use Rattle.declare.specs.Continuations.{horizon}
 use Rattle.declare.specs.Reachability.{undecided, standing}
-use Rattle.declare.specs.Steps.{carried, closed, capacity, isTaken, takenAfter, taken}
-use Rattle.declare.proofs.Steps.{Cycle, empty-cycle, cycle-taken, taken-parts, taken-continues, carried-standing, closed-is-verdict, cycle-of-taken}
+use Rattle.declare.specs.Standings.{isIdle, isOpen}
+use Rattle.declare.specs.Steps.{carried, closed, capacity, Cycle, isTaken, takenAfter, taken}
+use Rattle.declare.proofs.Steps.{empty-cycle, cycle-taken, taken-parts, taken-continues, carried-standing, closed-is-verdict, cycle-of-taken}
 use Rattle.declare.proofs.Booleans.{and-right, both, all-at}
 use Rattle.declare.proofs.Sweeps.{length-map-from}
 use Rattle.judge.specs.Cells.{idleCell, placeOf, standingIn, inUse, judged, judgedCells}
 use Rattle.run.specs.declared.Run.{Run}
 use Rattle.run.specs.Replies.{accepted, runAfter}
-use Rattle.run.specs.Records.{eventsOf, ruleAt, isIdle, validRun, Sized}
+use Rattle.run.specs.Records.{eventsOf, ruleAt, validRun, Sized}
 use Rattle.run.specs.Start.{newRun, started}
 use Rattle.run.specs.Take.{appended, judgedRun, takeOf}
 use Rattle.run.specs.Close.{closedAt, closedCells, closedRun}
-use Rattle.run.specs.Queries.{oneOf, isOpen, totalsBy}
+use Rattle.run.specs.Queries.{oneOf, totalsBy}
 use Rattle.run.specs.Takes.{afterTakes, grown, RunOf, Answers, running, finished, replyAfter, isAccepted, EveryTakes}
 use Rattle.run.proofs.Bounds.{rules-within}
 use Rattle.run.proofs.Lists.{leb-not, ltb-not, last-more}
@@ -122,7 +123,7 @@ next-horizon es e = omega (arith, last-more es e)
 module _ (t : Table) (slots : length (t .rules) ≡ 16) (v : validTable t ≡ true) (es : List Event) (cycle : Cycle es) where
   few : length es ≤ 256
   unfolding capacity
-  few = cycle .few
+  few = cycle .most
 
   sized : (over : Bool) (stands : Rule → ℕ → Standing) (r : Run) → RunOf t es over stands r → Sized r
   unfolding capacity
@@ -188,7 +189,7 @@ module _ (t : Table) (slots : length (t .rules) ≡ 16) (v : validTable t ≡ tr
           go true q =
               let l : i ≤ length es = leb-true i (length es) q in
               rw (g .standings k i a b c l)
-              (carried-standing rule es (e ∷ []) (horizon es) (horizon (es ++ e ∷ [])) i (rule-valid k a b) (cycle .falls) (last-horizon es) (next-horizon es e) c l (taken-continues es e h))
+              (carried-standing rule es (e ∷ []) (horizon es) (horizon (es ++ e ∷ [])) i (rule-valid k a b) (cycle .order) (last-horizon es) (next-horizon es e) c l (taken-continues es e h))
           go false q =
               let l : length es < i = leb-false i (length es) q in
               let unused : inUse (t .count) (length es) (placeOf k i) ≡ false =

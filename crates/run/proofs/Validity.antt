@@ -11,6 +11,7 @@ use borrow.Author.Tests.{le-leb, lt-leb, leb-true, leb-false, ltb-false}
 use lib.Dec.{leb, ltb}
 use lib.ListN.{length, getD, take, set, replicate, length-set, length-replicate}
 use lib.Seq.{length-take-le}
+use Rattle.declare.specs.Standings.{isIdle}
 use Rattle.declare.specs.declared.Event.{Event}
 use Rattle.declare.specs.declared.Rule.{Rule}
 use Rattle.declare.specs.declared.Table.{Table}
@@ -35,7 +36,7 @@ use Rattle.judge.specs.Cells.{idleCell, placeOf, standingIn, judged, judgedCell
 use Rattle.declare.specs.Refusals.{number}
 use Rattle.run.specs.declared.Run.{Run}
 use Rattle.run.specs.Replies.{accepted, refused, runAfter}
-use Rattle.run.specs.Records.{eventsOf, ruleAt, isIdle, validEvents, validStanding, validAt, validRun, Sized}
+use Rattle.run.specs.Records.{eventsOf, ruleAt, validEvents, validStanding, validAt, validRun, Sized}
 use Rattle.run.specs.Start.{newRun, startOf, emptyTable, started}
 use Rattle.run.specs.Take.{appended, judgedRun, takeOf}
 use Rattle.run.specs.Close.{closedAt, closedCells, closedRun, closeOf}

@@ -5,13 +5,13 @@ use lib.Dec.{leb}
 use Rattle.declare.specs.declared.Standing.{Standing}
 use Rattle.declare.specs.declared.Standing.the-variants.{Idle, Open, Fulfilled, Violated}
 use Rattle.declare.specs.Lists.{bit, countBelow}
-use Rattle.declare.specs.Exactness.{isFulfilled, isViolated}
+use Rattle.declare.specs.Standings.{isIdle, isOpen, isFulfilled, isViolated}
 use Rattle.declare.specs.Refusals.{number}
 use Rattle.judge.specs.Cells.{standingIn}
 use Rattle.run.specs.declared.Run.{Run}
 use Rattle.run.specs.declared.Totals.{Totals}
 use Rattle.run.specs.Replies.{Reply, accepted, refused}
-use Rattle.run.specs.Records.{isIdle, validRun}
+use Rattle.run.specs.Records.{validRun}
 
 -- "positions, rules and lines count from 1": k is one of n
 abbrev pub oneOf : ℕ → ℕ → Bool
@@ -23,12 +23,6 @@ standingOf r rule position =
     cond (not (validRun r)) (refused (number 11))
     (cond (not (oneOf (r .table .count) rule && oneOf (r .count) position)) (refused (number 10))
     (accepted (standingIn (r .cells) rule position)))
-
-abbrev pub isOpen : Standing → Bool
-isOpen Idle = false
-isOpen Open = true
-isOpen (Fulfilled j) = false
-isOpen (Violated j) = false
 
 -- how many of the positions 1 to n stand so; s is the standing of each
 unfoldable pub countOf : (Standing → Bool) → (ℕ → Standing) → ℕ → ℕ

@@ -13,6 +13,7 @@ use Rattle.declare.specs.declared.Standing.the-variants.{Idle, Open, Fulfilled,
 use Rattle.declare.specs.Lists.{all, allBelow}
 use Rattle.declare.specs.Events.{wellFormed, nonFalling}
 use Rattle.declare.specs.Rules.{noRule, validTable}
+use Rattle.declare.specs.Standings.{isIdle}
 use Rattle.declare.specs.Steps.{capacity}
 use Rattle.judge.specs.declared.Cell.{Cell}
 use Rattle.judge.specs.Cells.{standingIn}
@@ -30,12 +31,6 @@ ruleAt t k = getD (t .rules) (k - 1) noRule
 unfoldable pub validEvents : ℕ → List Event → Bool
 validEvents count events =
     leb count capacity && all wellFormed (take count events) && nonFalling (take count events)
-
-abbrev pub isIdle : Standing → Bool
-isIdle Idle = true
-isIdle Open = false
-isIdle (Fulfilled j) = false
-isIdle (Violated j) = false
 
 -- not "a target above its event count", nor "open in a closed run"
 abbrev pub validStanding : Bool → ℕ → Standing → Bool

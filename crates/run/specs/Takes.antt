@@ -16,6 +16,7 @@ use Rattle.declare.specs.Suits.{activationAt}
 use Rattle.declare.specs.Verdicts.{verdict}
 use Rattle.declare.specs.Continuations.{horizon}
 use Rattle.declare.specs.Reachability.{standing}
+use Rattle.declare.specs.Standings.{isOpen}
 use Rattle.declare.specs.Steps.{capacity, isTaken, taken}
 use Rattle.declare.specs.Refusals.{number-and-line}
 use Rattle.judge.specs.Cells.{idleCell, standingIn, inUse}
@@ -26,7 +27,7 @@ use Rattle.run.specs.Records.{ruleAt, validRun}
 use Rattle.run.specs.Start.{started}
 use Rattle.run.specs.Take.{appended, judgedRun, takeOf}
 use Rattle.run.specs.Close.{closedRun, closeOf}
-use Rattle.run.specs.Queries.{standingOf, isOpen, totalsBy, totalsOf}
+use Rattle.run.specs.Queries.{standingOf, totalsBy, totalsOf}
 
 -- "each later one the run that the take before it gave back, after a refusal the same run"
 unfoldable pub afterTakes : Run → List Event → Run

@@ -3,7 +3,6 @@ ghost use mathlib.Core.Path.{_≡_};
 ghost use Prim.Native.Nat.{_≤_};
 ghost use Rattle.declare.specs.Steps.{closing, closed};
 ghost use Rattle.run.specs.Replies.{replyOf, runAfter};
-ghost use Rattle.run.specs.Queries.{isOpen};
 ghost use Rattle.run.specs.Close.{closedCell, closedCells, closeOf};
 use crate::Answer;
 use crate::Run;
@@ -13,6 +12,7 @@ use declare::Refusal;
 use declare::Rule;
 use declare::Standing;
 use declare::Table;
+use declare::standings::is_open;
 use judge::Cell;
 
 // What an open standing becomes: without a target 1 to 7 are violated, 8 to 12 fulfilled.
@@ -49,17 +49,6 @@ fn closed_cell(used: bool, rule: Rule, c: Cell) -> Cell
         };
     }
     c
-}
-
-fn is_open(s: Standing) -> bool
-    ensures { λ r. ⌜ r ≡ isOpen s ⌝ }
-{
-    match s {
-        Standing::Idle => false,
-        Standing::Open => true,
-        Standing::Fulfilled(_) => false,
-        Standing::Violated(_) => false,
-    }
 }
 
 // All cells after closing; only the rows of the rules are gone through, and only what is open can change.

@@ -2,13 +2,14 @@
 ghost use mathlib.Core.Path.{_≡_};
 ghost use Prim.Native.Nat.{_+_, _≤_};
 ghost use Rattle.declare.specs.Rules.{validTable};
-ghost use Rattle.run.specs.Records.{isIdle, validEvents, validStanding, validAt, validStandings, validRun};
+ghost use Rattle.run.specs.Records.{validEvents, validStanding, validAt, validStandings, validRun};
 use crate::Run;
 use crate::limits::valid_rule;
 use crate::limits::well_formed;
 use declare::Event;
 use declare::Standing;
 use declare::Table;
+use declare::standings::is_idle;
 use judge::Cell;
 
 // Whether the table is valid: its count, and the rules up to it.
@@ -42,17 +43,6 @@ fn valid_events(count: usize, events: [Event; 256]) -> bool
         last = e.time;
     }
     valid
-}
-
-fn is_idle(s: Standing) -> bool
-    ensures { λ r. ⌜ r ≡ isIdle s ⌝ }
-{
-    match s {
-        Standing::Idle => true,
-        Standing::Open => false,
-        Standing::Fulfilled(_) => false,
-        Standing::Violated(_) => false,
-    }
 }
 
 // A target as a position.

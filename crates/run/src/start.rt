@@ -6,32 +6,18 @@ use crate::Answer;
 use crate::Run;
 use crate::Step;
 use crate::record::valid_table;
-use declare::Comparison;
-use declare::Condition;
-use declare::End;
-use declare::Event;
-use declare::Operator;
-use declare::Reading;
-use declare::Reference;
 use declare::Refusal;
-use declare::Rule;
 use declare::Standing;
 use declare::Table;
-use declare::Window;
+use declare::slots::empty_slot;
+use declare::slots::no_rule;
 use judge::Cell;
 
 // The run that has taken nothing yet.
 fn new_run(table: Table) -> Run
     ensures { λ r. ⌜ r ≡ newRun table ⌝ }
 {
-    let slot = Event {
-        time: 0,
-        activity: 1,
-        reading1: Reading::Blank,
-        reading2: Reading::Blank,
-        reading3: Reading::Blank,
-        reading4: Reading::Blank,
-    };
+    let slot = empty_slot();
     let idle = Cell {
         standing: Standing::Idle,
     };
@@ -48,29 +34,7 @@ fn new_run(table: Table) -> Run
 fn empty_table() -> Table
     ensures { λ r. ⌜ r ≡ emptyTable ⌝ }
 {
-    let comparison = Comparison {
-        reading: 0,
-        operator: Operator::Equal,
-        reference: Reference::Constant(0),
-    };
-    let condition = Condition {
-        count: 0,
-        first: comparison,
-        second: comparison,
-        third: comparison,
-        fourth: comparison,
-    };
-    let rule = Rule {
-        code: 0,
-        activation: 0,
-        target: 0,
-        window: Window {
-            from: 0,
-            until: End::Never,
-        },
-        condition: condition,
-        correlation: condition,
-    };
+    let rule = no_rule();
     Table {
         count: 0,
         rules: [rule; 16],

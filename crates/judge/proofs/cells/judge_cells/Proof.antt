@@ -13,6 +13,7 @@ use Rattle.declare.proofs.Booleans.{and₂}
 use Rattle.declare.proofs.Sweeps.{Swept, swept-none, swept-again, swept-kept, swept-skip, swept-all}
 use Rattle.judge.specs.Cells.{idleCell, judgedCell, judgedCells}
 use Rattle.judge.proofs.ByColumn.{shown-activities}
+use Rattle.judge.proofs.Carried.{only-idle}
 use Rattle.judge.proofs.Places.{row-rest, rules-rest}
 use Rattle.judge.proofs.Rows.{Placed, ready-at, cell-is, idle-stays, cell-unused, within-arrays}
 use Rattle.judge.proofs.cells.judge_cells.Statement.{statement}
@@ -91,7 +92,7 @@ loop-again c =
     let both : (not (getD (here .before .before .before .flags-of .result) (l .j) false) ≡ true) × (c .before .is-idle .result ≡ true) = and₂ (c .if2 .taken) in (
       omega arith,
       swept-kept (l .inv .1) idleCell (omega arith)
-          (idle-stays (placed here) (not-true _ (both .0)) (a .running) (a .horizon) (getD (l .cells) (l .j) idleCell) (omega arith) (c .before .is-idle .ensures (both .1))),
+          (idle-stays (placed here) (not-true _ (both .0)) (a .running) (a .horizon) (getD (l .cells) (l .j) idleCell) (omega arith) (only-idle _ (sym (c .before .is-idle .ensures) ∙ both .1))),
     )
 
 mul-rule : tie.Need-mul-rule Inv-loop μ-loop

@@ -15,7 +15,7 @@ use Rattle.declare.specs.Rules.{noComparison, noCondition, noRule}
 use Rattle.judge.specs.declared.Cell.{Cell}
 use Rattle.judge.specs.Cells.{idleCell, inUse}
 use Rattle.run.specs.Close.{closedCell, closedAt, closedCells}
-use Rattle.run.specs.Queries.{isOpen}
+use Rattle.declare.specs.Standings.{isOpen}
 use Rattle.run.proofs.Places.{closed-past}
 use Rattle.run.proofs.Takes.{closed-decided}
 use borrow.Author.Needs.{needs}
