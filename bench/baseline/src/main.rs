@@ -1,12 +1,15 @@
 //! The measured workloads in plain Rust: the algorithm of the library, over references, with the same checks.
 //!
 //! `baseline < INPUT` runs an input; `baseline data LETTER TURNS NAME` writes one; `baseline count NAME` says its rule-events.
+//! `baseline copying BYTES < INPUT` copies so many bytes before each call of a running cycle, and else does the same.
+mod copies;
 mod data;
 mod judge;
 mod run;
 mod text;
 mod types;
 
+use copies::Copies;
 use std::hint::black_box;
 use std::io::Read;
 use types::*;
@@ -54,9 +57,10 @@ fn part<'a>(text: &mut &'a [u8], bytes: usize) -> &'a [u8] {
     first
 }
 
-fn taken(table: &Table, events: &[Event]) -> Run {
+fn taken(table: &Table, events: &[Event], copies: &mut Copies) -> Run {
     let mut run = Run::start(*table).unwrap();
     for &e in events {
+        copies.make();
         run.take(e).unwrap();
     }
     run
@@ -73,9 +77,10 @@ fn judged(table: &Table, events: &[Event]) -> Run {
 }
 
 /// Each turn begins with a copy of the run, so that the same event can be taken again; `k` makes the copy only.
-fn takes(letter: u8, run: &Run, event: Event, turns: usize) -> u64 {
+fn takes(letter: u8, run: &Run, event: Event, turns: usize, copies: &mut Copies) -> u64 {
     let mut sum = 0;
     for _ in 0..turns {
+        copies.make();
         let mut next = *black_box(run);
         if letter != b'k' {
             let answer = if letter == b't' { next.take(event) } else { next.close() };
@@ -86,19 +91,21 @@ fn takes(letter: u8, run: &Run, event: Event, turns: usize) -> u64 {
     sum
 }
 
-fn cycles(table: &Table, events: &[Event], turns: usize) -> u64 {
+fn cycles(table: &Table, events: &[Event], turns: usize, copies: &mut Copies) -> u64 {
     let mut sum = 0;
     for _ in 0..turns {
-        let mut run = taken(black_box(table), events);
+        let mut run = taken(black_box(table), events, copies);
+        copies.make();
         run.close().unwrap();
         sum = joined(sum, of_cells(&run));
     }
     sum
 }
 
-fn asked(letter: u8, run: &Run, turns: usize) -> u64 {
+fn asked(letter: u8, run: &Run, turns: usize, copies: &mut Copies) -> u64 {
     let mut sum = 0;
     for i in 0..turns {
+        copies.make();
         let run = black_box(run);
         let x = match letter {
             b's' => run.standing(i % 16 + 1, i % 256 + 1).map_or_else(u64::from, of_standing),
@@ -131,20 +138,20 @@ fn notebooks(letter: u8, rules: &[u8], cycles: &[&[u8]], turns: usize) -> u64 {
     sum
 }
 
-fn cycle_calls(letter: u8, turns: usize, rules: &[u8], cycle: &[u8]) -> u64 {
+fn cycle_calls(letter: u8, turns: usize, rules: &[u8], cycle: &[u8], copies: &mut Copies) -> u64 {
     let table = text::read_rules(rules).unwrap();
     let read = text::read_cycle(cycle).unwrap();
     let events = &read.events[..read.count];
     let (last, before) = events.split_last().unwrap();
     match letter {
-        b't' | b'k' => takes(letter, &judged(&table, before), *last, turns),
-        b'x' => takes(letter, &judged(&table, events), *last, turns),
-        b'c' => cycles(&table, events, turns),
-        _ => asked(letter, &judged(&table, events), turns),
+        b't' | b'k' => takes(letter, &judged(&table, before), *last, turns, copies),
+        b'x' => takes(letter, &judged(&table, events), *last, turns, copies),
+        b'c' => cycles(&table, events, turns, copies),
+        _ => asked(letter, &judged(&table, events), turns, copies),
     }
 }
 
-fn work(text: &[u8]) -> u64 {
+fn work(text: &[u8], bytes_copied: usize) -> u64 {
     let letter = text[0];
     let mut rest = &text[2..];
     let turns = field(&mut rest, b'\t');
@@ -159,8 +166,14 @@ fn work(text: &[u8]) -> u64 {
     match letter {
         b'r' => readings(cycles[0], turns),
         b'n' | b'v' => notebooks(letter, rules, &cycles, turns),
-        _ => cycle_calls(letter, turns, rules, cycles[0]),
+        _ => cycle_calls(letter, turns, rules, cycles[0], &mut Copies::of(bytes_copied)),
     }
+}
+
+fn input() -> Vec<u8> {
+    let mut text = Vec::new();
+    std::io::stdin().read_to_end(&mut text).unwrap();
+    text
 }
 
 fn main() {
@@ -169,10 +182,7 @@ fn main() {
     match words[..] {
         ["data", letter, turns, name] => print!("{}", data::input(letter, turns, name)),
         ["count", name] => print!("{}", data::rule_events(name)),
-        _ => {
-            let mut text = Vec::new();
-            std::io::stdin().read_to_end(&mut text).unwrap();
-            print!("{}", work(&text));
-        }
+        ["copying", bytes] => print!("{}", work(&input(), bytes.parse().unwrap())),
+        _ => print!("{}", work(&input(), 0)),
     }
 }
