@@ -28,16 +28,16 @@ use Rattle.cycle_text.proofs.Turns.{last-taken}
 -- ---- a line that was read
 
 -- what its six fields gave
-record EventRead (fields : List (List ℕ)) (e : Event) : Type 0 where
-  six : length fields ≡ 6
-  time : numberField 0 4294967295 (getD fields 0 []) ≡ Of (e .time)
-  activity : numberField 1 64 (getD fields 1 []) ≡ Of (e .activity)
-  reading1 : readingField (getD fields 2 []) ≡ Of (e .reading1)
-  reading2 : readingField (getD fields 3 []) ≡ Of (e .reading2)
-  reading3 : readingField (getD fields 4 []) ≡ Of (e .reading3)
-  reading4 : readingField (getD fields 5 []) ≡ Of (e .reading4)
+pub record EventRead (fields : List (List ℕ)) (e : Event) : Type 0 where
+  pub six : length fields ≡ 6
+  pub time : numberField 0 4294967295 (getD fields 0 []) ≡ Of (e .time)
+  pub activity : numberField 1 64 (getD fields 1 []) ≡ Of (e .activity)
+  pub reading1 : readingField (getD fields 2 []) ≡ Of (e .reading1)
+  pub reading2 : readingField (getD fields 3 []) ≡ Of (e .reading2)
+  pub reading3 : readingField (getD fields 4 []) ≡ Of (e .reading3)
+  pub reading4 : readingField (getD fields 5 []) ≡ Of (e .reading4)
 
-event-read : (fields : List (List ℕ)) (e : Event) → eventOf fields ≡ Of e → EventRead fields e
+pub event-read : (fields : List (List ℕ)) (e : Event) → eventOf fields ≡ Of e → EventRead fields e
 unfolding eventOf
 event-read fields e h =
     let s = required _ 1 _ e h in

@@ -1,10 +1,13 @@
--- Each call is a chain of tests, one a cause. Of such a chain both facts hold, by induction over the causes.
+-- Each call on records is a chain of causes. So is each line of a text (Lines), and a reader goes from line to line (Texts).
 use mathlib.Core.Path.{_≡_, refl, sym, ap, _∙_}
 use mathlib.Core.Logic.{_↔_, _⊎_, inl, inr}
 use mathlib.Core.Bool.{Bool, true, false, not, cond, _&&_, true≢false, false≢true}
 use mathlib.Core.List.{List, [], _∷_}
 use Prim.Native.Nat.{ℕ}
-use Rattle.declare.specs.Lists.{all}
+use native.Mathlib.Omega.{arith}
+use Rattle.declare.specs.declared.Event.{Event}
+use Rattle.declare.specs.declared.Rule.{Rule}
+use Rattle.declare.specs.Lists.{any}
 use Rattle.declare.specs.Refusals.{Returned, number, returned, hasLine, numberOf}
 use Rattle.run.specs.declared.Run.{Run}
 use Rattle.run.specs.Replies.{Reply, accepted, refused, runAfter}
@@ -19,70 +22,27 @@ use Rattle.tally.specs.declared.Tally.{Tally}
 use Rattle.tally.specs.declared.Counted.{Counted}
 use Rattle.tally.specs.declared.Answer.{Answer}
 use Rattle.tally.specs.Tally.{fits, added, countsOf, withCounts, absorbOf, answerReply, tallyAfter, Counts, Absorbs}
-use Rattle.demands.specs.Demand1.{Cause, First, noneHolds, Refuses, startCauses, takeCauses, closeCauses, standingCauses, totalsCauses, absorbCauses, Demand1}
+use Rattle.demands.specs.Causes.{Cause}
+use Rattle.demands.specs.Demand1.{Refuses, startCauses, takeCauses, closeCauses, standingCauses, totalsCauses, absorbCauses, ReadsBoth, Demand1}
+use Rattle.line.specs.Texts.{Records, All, Stop}
+use Rattle.cycle_text.specs.Cycle.{eventAfter, cycleTextOf}
+use Rattle.rule_text.specs.Rules.{ruleAfter, rulesTextOf}
+use Rattle.line.proofs.Texts.{stop-all}
+use Rattle.notebook.specs.declared.Text.{Text}
+use Rattle.notebook.specs.declared.Text.the-variants.{Rules, Cycle}
+use Rattle.notebook.specs.Notebook.{accepted as readAs, refused as notRead, notebookOf, finishedOf, readWith}
+use Rattle.demands.specs.LineCauses.{eventCauses, ruleCauses}
+use Rattle.demands.specs.Texts.{Reads}
+use Rattle.demands.proofs.Texts.{reads}
+use Rattle.demands.proofs.Lines.{has-event, has-rule, eventNumbers, event-numbered, ruleNumbers, rule-numbered}
+use Rattle.demands.proofs.Chains.{inOrder, to-first, from-first, to-none, from-none}
 
--- ---- a chain of tests
-
-inOrder : {A : Type 0} → List Cause → A → Reply A
-inOrder [] a = accepted a
-inOrder (c ∷ later) a = cond (c .holds) (refused (returned (c .refusal) 0)) (inOrder later a)
-
-returnedBy : {A : Type 0} → Returned → Reply A → Returned
-returnedBy n (accepted a) = n
-returnedBy n (refused m) = m
-
-isRefused : {A : Type 0} → Reply A → Bool
-isRefused (accepted a) = false
-isRefused (refused n) = true
-
-differ : {A : Type 0} {a : A} {n : Returned} → accepted a ≡ refused n → ⊥
-unfolding isRefused
-differ e = false≢true (ap isRefused e)
-
-same : {A : Type 0} (m n : Returned) (p q : Reply A) → p ≡ refused m → q ≡ refused n → p ≡ q → m ≡ n
-unfolding returnedBy
-same m n p q a b e = sym (ap (returnedBy m) a) ∙ ap (returnedBy m) e ∙ ap (returnedBy m) b
-
-module _ {A : Type 0} (a : A) where
-  to-first : (causes : List Cause) (n : Returned) → inOrder causes a ≡ refused n → First causes n
-  unfolding inOrder First
-  to-first [] n e = absurd (differ e)
-  to-first (c ∷ later) n e = go (c .holds) refl (to-first later n) e
-    where
-      go : (h : Bool) → c .holds ≡ h → (inOrder later a ≡ refused n → First later n) → cond h (refused (returned (c .refusal) 0)) (inOrder later a) ≡ refused n → ((c .holds ≡ true) × (returned (c .refusal) 0 ≡ n)) ⊎ ((c .holds ≡ false) × First later n)
-      go true q more p = inl (q, same (returned (c .refusal) 0) n _ _ refl refl p)
-      go false q more p = inr (q, more p)
-
-  from-first : (causes : List Cause) (n : Returned) → First causes n → inOrder causes a ≡ refused n
-  unfolding inOrder First
-  from-first [] n f = absurd f
-  from-first (c ∷ later) n (inl (h, e)) = rw h (ap refused e)
-  from-first (c ∷ later) n (inr (h, f)) = rw h (from-first later n f)
-
-  to-none : (causes : List Cause) (b : A) → inOrder causes a ≡ accepted b → noneHolds causes ≡ true
-  unfolding inOrder noneHolds all
-  to-none [] b e = refl
-  to-none (c ∷ later) b e = go (c .holds) (to-none later b) e
-    where
-      go : (h : Bool) → (inOrder later a ≡ accepted b → noneHolds later ≡ true) → cond h (refused (returned (c .refusal) 0)) (inOrder later a) ≡ accepted b → (not h && noneHolds later) ≡ true
-      go true more p = absurd (differ (sym p))
-      go false more p = more p
-
-  from-none : (causes : List Cause) → noneHolds causes ≡ true → inOrder causes a ≡ accepted a
-  unfolding inOrder noneHolds all
-  from-none [] e = refl
-  from-none (c ∷ later) e = go (c .holds) (from-none later) e
-    where
-      go : (h : Bool) → (noneHolds later ≡ true → inOrder later a ≡ accepted a) → (not h && noneHolds later) ≡ true → cond h (refused (returned (c .refusal) 0)) (inOrder later a) ≡ accepted a
-      go true more p = absurd (false≢true p)
-      go false more p = more p
-
-  chain : (causes : List Cause) → Refuses causes (inOrder causes a)
-  chain causes =
-      record {
-        refuses = λ n. (to-first causes n, from-first causes n);
-        accepts = (λ p. to-none causes (p .0) (p .1), λ e. (a, from-none causes e));
-      }
+chain : {A : Type 0} (a : A) (causes : List Cause) → Refuses causes (inOrder 0 causes a)
+chain a causes =
+    record {
+      refuses = λ n. (to-first 0 a causes n, from-first 0 a causes n);
+      accepts = (λ p. to-none 0 a causes (p .0) (p .1), λ e. (a, from-none 0 a causes e));
+    }
 
 -- ---- the calls are such chains
 
@@ -96,7 +56,7 @@ module _ (r : Run) (rule : ℕ) (t : Tally) where
   abbrev totals : Totals
   totals = totalsBy (standingIn (r .cells) rule) (r .count)
 
-  absorb-chain : absorbOf r rule t ≡ inOrder (absorbCauses r rule t) (added t totals)
+  absorb-chain : absorbOf r rule t ≡ inOrder 0 (absorbCauses r rule t) (added t totals)
   unfolding absorbOf countsOf absorbCauses inOrder returned hasLine numberOf
   absorb-chain = go (validRun r) (oneOf (r .table .count) rule) (r .closed)
     where
@@ -118,6 +78,62 @@ keeps-tally : (t : Tally) (reply : Reply Tally) (n : Returned) → reply ≡ ref
 unfolding tallyAfter
 keeps-tally t reply n e = ap (tallyAfter t) e
 
+-- ---- the texts
+
+rules-reads : (text : List ℕ) → Reads ruleCauses rulesTextOf ruleNumbers text
+unfolding rulesTextOf any
+rules-reads text = reads ruleAfter ruleCauses (λ above fields line. has-rule line above fields) text ruleNumbers refl rule-numbered
+
+cycle-reads : (text : List ℕ) → Reads eventCauses cycleTextOf eventNumbers text
+unfolding cycleTextOf any
+cycle-reads text = reads eventAfter eventCauses (λ above fields line. has-event line above fields) text eventNumbers refl event-numbered
+
+-- ---- the notebook
+
+read-refused : {r : Run} {text : Text} {n line : ℕ} → readAs r ≡ notRead text n line → ⊥
+read-refused e =
+    let z : _≡_ {A = ℕ} 0 1 = cc in
+    omega arith
+
+cycle-rules : {m n k line : ℕ} → notRead Cycle m k ≡ notRead Rules n line → ⊥
+cycle-rules e =
+    let t : Cycle ≡ Rules = cc in
+    let z : _≡_ {A = ℕ} 0 1 = cc in
+    omega arith
+
+stopped : {A : Type 0} (text : Text) (m n k line : ℕ) → notRead text m k ≡ notRead text n line → _≡_ {A = Records A} (Stop m k) (Stop n line)
+stopped text m n k line e =
+    let p : m ≡ n = cc in
+    let q : k ≡ line = cc in
+    rw (p, q)
+
+rules-refused : (x : Records Rule) (y : Records Event) (n line : ℕ) → (finishedOf x y ≡ notRead Rules n line) ↔ (x ≡ Stop n line)
+unfolding finishedOf readWith
+rules-refused (All rs) (All es) n line = ((λ e. absurd (read-refused e)), (λ e. absurd (stop-all (sym e))))
+rules-refused (All rs) (Stop m k) n line = ((λ e. absurd (cycle-rules e)), (λ e. absurd (stop-all (sym e))))
+rules-refused (Stop m k) y n line = (stopped Rules m n k line, (λ e. cc))
+
+cycle-refused : (x : Records Rule) (y : Records Event) (n line : ℕ) → (finishedOf x y ≡ notRead Cycle n line) ↔ (((rs : List Rule) × (x ≡ All rs)) × (y ≡ Stop n line))
+unfolding finishedOf readWith
+cycle-refused (All rs) (All es) n line = ((λ e. absurd (read-refused e)), (λ e. absurd (stop-all (sym (e .1)))))
+cycle-refused (All rs) (Stop m k) n line = ((λ e. ((rs, refl), stopped Cycle m n k line e)), (λ e. (let q : Stop m k ≡ Stop n line = e .1 in cc)))
+cycle-refused (Stop m k) y n line = ((λ e. absurd (cycle-rules (sym e))), (λ e. absurd (stop-all (e .0 .1))))
+
+both-read : (x : Records Rule) (y : Records Event) → ((r : Run) × (finishedOf x y ≡ readAs r)) ↔ (((rs : List Rule) × (x ≡ All rs)) × ((es : List Event) × (y ≡ All es)))
+unfolding finishedOf readWith
+both-read (All rs) (All es) = ((λ e. ((rs, refl), (es, refl))), (λ e. (_, refl)))
+both-read (All rs) (Stop m k) = ((λ e. absurd (read-refused (sym (e .1)))), (λ e. absurd (stop-all (e .1 .1))))
+both-read (Stop m k) y = ((λ e. absurd (read-refused (sym (e .1)))), (λ e. absurd (stop-all (e .0 .1))))
+
+reads-both : (rules cycle : List ℕ) → ReadsBoth rules cycle
+unfolding notebookOf
+reads-both rules cycle =
+    record {
+      refuses-rules = rules-refused (rulesTextOf rules) (cycleTextOf cycle);
+      refuses-cycle = cycle-refused (rulesTextOf rules) (cycleTextOf cycle);
+      accepts = both-read (rulesTextOf rules) (cycleTextOf cycle);
+    }
+
 -- ---- all calls
 
 pub demand1 : Demand1
@@ -134,4 +150,7 @@ demand1 =
       take-keeps = λ r e n p. keeps r (takeOf r e) n p;
       close-keeps = λ r n p. keeps r (closeOf r) n p;
       tally-keeps = λ r rule t n p. keeps-tally t (absorbOf r rule t) n p;
+      rules-text = rules-reads;
+      cycle-text = cycle-reads;
+      notebook = reads-both;
     }

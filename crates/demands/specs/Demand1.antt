@@ -1,23 +1,22 @@
 -- Demand 1: "every call .. gets a result or one of the fourteen numbers", exactly as document 01's table and orders say.
 --
 -- Each call on records has a list of causes, in document 01's order. It is refused with the number of the first that holds, and accepted if
--- none holds. (The texts have their orders in cycle_text/specs/Cycle and rule_text/specs/Rules.)
+-- none holds. So has each line of a text (LineCauses); a reader goes from line to line (Texts); the notebook reads the rules first.
 use mathlib.Core.Path.{_≡_}
-use mathlib.Core.Logic.{_↔_, _⊎_}
-use mathlib.Core.Bool.{Bool, true, false, not, _&&_}
+use mathlib.Core.Logic.{_↔_}
+use mathlib.Core.Bool.{true, not, _&&_}
 use mathlib.Core.List.{List, [], _∷_}
 use Prim.Native.Nat.{ℕ}
 use lib.Dec.{leb, ltb}
 use Rattle.declare.specs.declared.Event.{Event}
+use Rattle.declare.specs.declared.Rule.{Rule}
 use Rattle.declare.specs.declared.Table.{Table}
-use Rattle.declare.specs.declared.Refusal.{Refusal}
 use Rattle.declare.specs.declared.Refusal.the-variants.{OutOfRange, TimeFalls, TooMany, WrongPhase, NotFound, InvalidRecord, TallyOverflow}
-use Rattle.declare.specs.Lists.{all}
 use Rattle.declare.specs.Events.{wellFormed}
 use Rattle.declare.specs.Rules.{validTable}
 use Rattle.declare.specs.Continuations.{horizon}
 use Rattle.declare.specs.Steps.{capacity}
-use Rattle.declare.specs.Refusals.{Returned, returned}
+use Rattle.declare.specs.Refusals.{Returned}
 use Rattle.judge.specs.Cells.{standingIn}
 use Rattle.run.specs.declared.Run.{Run}
 use Rattle.run.specs.Replies.{Reply, accepted, refused, runAfter}
@@ -30,25 +29,18 @@ use Rattle.tally.specs.declared.Tally.{Tally}
 use Rattle.tally.specs.declared.Counted.{Counted}
 use Rattle.tally.specs.declared.Answer.{Answer}
 use Rattle.tally.specs.Tally.{fits, absorbOf, answerReply, tallyAfter, Counts, Absorbs}
+use Rattle.line.specs.Texts.{All, Stop}
+use Rattle.cycle_text.specs.Cycle.{cycleTextOf}
+use Rattle.rule_text.specs.Rules.{rulesTextOf}
+use Rattle.notebook.specs.declared.Text.the-variants.{Rules, Cycle}
+use Rattle.notebook.specs.Notebook.{accepted as readAs, refused as notRead, notebookOf}
+use Rattle.demands.specs.Causes.{Cause, cause, First, noneHolds}
+use Rattle.demands.specs.LineCauses.{eventCauses, ruleCauses}
+use Rattle.demands.specs.Texts.{Reads}
 
--- a cause of refusal, and whether it holds
-pub record Cause : Type 0 where
-  pub refusal : Refusal
-  pub holds : Bool
-
-abbrev pub cause : Refusal → Bool → Cause
-cause refusal holds = record { refusal = refusal; holds = holds }
-
--- n is returned for the first cause that holds: it holds, and no earlier one does
-unfoldable pub First : List Cause → Returned → Type 0
-First [] n = ⊥
-First (c ∷ later) n = ((c .holds ≡ true) × (returned (c .refusal) 0 ≡ n)) ⊎ ((c .holds ≡ false) × First later n)
-
-unfoldable pub noneHolds : List Cause → Bool
-noneHolds causes = all (λ c. not (c .holds)) causes
-
+-- a call on records; where document 01 returns a line, it is 0
 pub record Refuses {A : Type 0} (causes : List Cause) (reply : Reply A) : Type 0 where
-  pub refuses : (n : Returned) → (reply ≡ refused n) ↔ First causes n
+  pub refuses : (n : Returned) → (reply ≡ refused n) ↔ First 0 causes n
   pub accepts : ((a : A) × (reply ≡ accepted a)) ↔ (noneHolds causes ≡ true)
 
 -- ---- the orders
@@ -91,6 +83,15 @@ absorbCauses r rule t =
     ∷ cause TallyOverflow (not (fits t (totalsBy (standingIn (r .cells) rule) (r .count))))
     ∷ []
 
+-- "the notebook reading takes both texts, rules first": the cycle text is looked at if the rules are accepted
+pub record ReadsBoth (rules cycle : List ℕ) : Type 0 where
+  pub refuses-rules : (n line : ℕ) → (notebookOf rules cycle ≡ notRead Rules n line) ↔ (rulesTextOf rules ≡ Stop n line)
+  pub refuses-cycle : (n line : ℕ)
+      → (notebookOf rules cycle ≡ notRead Cycle n line)
+      ↔ (((rs : List Rule) × (rulesTextOf rules ≡ All rs)) × (cycleTextOf cycle ≡ Stop n line))
+  pub accepts : ((r : Run) × (notebookOf rules cycle ≡ readAs r))
+      ↔ (((rs : List Rule) × (rulesTextOf rules ≡ All rs)) × ((es : List Event) × (cycleTextOf cycle ≡ All es)))
+
 -- ---- the demand; proved as `demand1`
 
 pub record Demand1 : Type 0 where
@@ -109,3 +110,7 @@ pub record Demand1 : Type 0 where
   pub take-keeps : (r : Run) (e : Event) (n : Returned) → takeOf r e ≡ refused n → runAfter r (takeOf r e) ≡ r
   pub close-keeps : (r : Run) (n : Returned) → closeOf r ≡ refused n → runAfter r (closeOf r) ≡ r
   pub tally-keeps : (r : Run) (rule : ℕ) (t : Tally) (n : Returned) → absorbOf r rule t ≡ refused n → tallyAfter t (absorbOf r rule t) ≡ t
+  -- the texts, with the numbers that their readers can give
+  pub rules-text : (text : List ℕ) → Reads ruleCauses rulesTextOf (1 ∷ 2 ∷ 3 ∷ 4 ∷ 5 ∷ 6 ∷ 8 ∷ 12 ∷ []) text
+  pub cycle-text : (text : List ℕ) → Reads eventCauses cycleTextOf (1 ∷ 2 ∷ 3 ∷ 7 ∷ 8 ∷ 12 ∷ []) text
+  pub notebook : (rules cycle : List ℕ) → ReadsBoth rules cycle

@@ -1,4 +1,7 @@
 -- What the library promises: the three demands, each as the type of its theorem.
+pub mod Causes
+pub mod LineCauses
+pub mod Texts
 pub mod Demand1
 pub mod Demand2
 pub mod Demand3
