@@ -1,6 +1,7 @@
 -- The run answers with verdicts, and the verdicts follow the formulas.
 use mathlib.Core.Path.{_≡_, sym, ap, subst, _∙_}
-use mathlib.Core.Bool.{true, false, cond}
+use mathlib.Core.Logic.{_↔_}
+use mathlib.Core.Bool.{true, false, not, cond}
 use mathlib.Core.List.{List}
 use Prim.Native.Nat.{ℕ}
 use lib.ListN.{length}
@@ -12,10 +13,15 @@ use Rattle.declare.specs.declared.Standing.the-variants.{Idle}
 use Rattle.declare.specs.Rules.{isTemplate, validHead, validRule, validTable}
 use Rattle.declare.specs.Suits.{activationAt}
 use Rattle.declare.specs.Verdicts.{verdict}
+use Rattle.declare.specs.Standings.{isIdle}
+use Rattle.declare.specs.Words.{Names, targetIn}
 use Rattle.declare.specs.Steps.{Cycle, taken}
 use Rattle.declare.proofs.Booleans.{and₃, and₄}
+use Rattle.declare.proofs.Words.{judged}
 use Rattle.declare.proofs.Steps.{cycle-of-taken}
-use Rattle.formula.specs.Agreement.{Activated}
+use Rattle.formula.specs.Formula.{Formula}
+use Rattle.formula.specs.Table.{fixedOf, publishedOf}
+use Rattle.formula.specs.Agreement.{Agrees, Activated}
 use Rattle.formula.proofs.Agreement.{fixed-agrees, published-agrees}
 use Rattle.run.specs.declared.Run.{Run}
 use Rattle.run.specs.Replies.{accepted}
@@ -23,7 +29,7 @@ use Rattle.run.specs.Records.{ruleAt}
 use Rattle.run.specs.Close.{closedRun}
 use Rattle.run.specs.Queries.{standingOf}
 use Rattle.run.specs.Takes.{grown, Answers, finished}
-use Rattle.run.proofs.Takes.{rule-valid, takes}
+use Rattle.run.proofs.Takes.{rule-valid, verdict-active, takes}
 use Rattle.cycle_text.proofs.RoundTrips.{round-trips as cycle-trips}
 use Rattle.rule_text.specs.Reads.{tableOf}
 use Rattle.rule_text.specs.Written.{Sound}
@@ -31,37 +37,50 @@ use Rattle.rule_text.proofs.RoundTrips.{round-trips as rules-trips}
 use Rattle.notebook.specs.Notebook.{accepted as readAs, notebookOf}
 use Rattle.notebook.proofs.Tables.{table-slots, table-valid}
 use Rattle.notebook.proofs.Grown.{taken-cycle, finished-is-grown, accepted-texts}
-use Rattle.demands.specs.Demand2.{Within, FollowsFormulas, Demand2Grown, Demand2Read}
+use Rattle.demands.specs.Demand2.{Decides, FollowsFormulas, Demand2Grown, Demand2Read}
+use Rattle.demands.proofs.Standings.{stands-as, stands-so, stands-fulfilled, stands-violated}
 
 valid-code : (r : Rule) → validRule r ≡ true → isTemplate (r .code) ≡ true
 unfolding validRule validHead
 valid-code r v = and₄ (and₃ v .0) .0
 
-not-active : (r : Rule) (es : List Event) (i : ℕ) → activationAt r es i ≡ false → verdict r es i ≡ Idle
+-- not idle exactly if it is an activation
+idle-is : (r : Rule) (es : List Event) (i : ℕ) → (verdict r es i ≡ Idle) ↔ (activationAt r es i ≡ false)
 unfolding verdict
-not-active r es i e = rw e
+idle-is r es i = ((λ e. sym (verdict-active r es i) ∙ ap (λ (s : Standing). not (isIdle s)) e), (λ e. rw e))
 
 -- any closed run that answers with the verdicts
 pub follows : (t : Table) (es : List Event) (r : Run) → length (t .rules) ≡ 16 → validTable t ≡ true → Cycle es → Answers t es (finished es) r → FollowsFormulas t es r
-follows t es r slots valid cycle answers =
+follows t es r slots valid cycle answers k i w =
     record {
-      verdicts = verdicts;
-      idle = λ k i w e. verdicts k i w ∙ ap accepted (not-active (ruleAt t k) es i e);
-      fixed = λ k i w e. fixed-agrees (ruleAt t k) es i (activated k i w e);
-      published = λ k i w e three six. published-agrees (ruleAt t k) es i (activated k i w e) three six;
+      verdicts = answer;
+      idle = stands-so r k i (verdict rule es i) answer Idle _ (idle-is rule es i);
+      fixed = λ e. decides (fixedOf rule) (fixed-agrees rule es i (activated e));
+      published = λ e three six. decides (publishedOf rule) (published-agrees rule es i (activated e) three six);
+      names = λ e s a. subst (λ (u : Standing). Names rule es i (targetIn u)) (stands-as r k i (verdict rule es i) answer s a) (judged rule es i e .names);
     }
   where
-    verdicts : (k i : ℕ) → Within t es k i → standingOf r k i ≡ accepted (verdict (ruleAt t k) es i)
-    verdicts k i w = answers .standing k i (w .rule-low) (w .rule-high) (w .position-low) (w .position-high)
+    rule : Rule
+    rule = ruleAt t k
 
-    activated : (k i : ℕ) → Within t es k i → activationAt (ruleAt t k) es i ≡ true → Activated (ruleAt t k) es i
-    activated k i w e =
+    answer : standingOf r k i ≡ accepted (verdict (ruleAt t k) es i)
+    answer = answers .standing k i (w .rule-low) (w .rule-high) (w .position-low) (w .position-high)
+
+    activated : activationAt (ruleAt t k) es i ≡ true → Activated (ruleAt t k) es i
+    activated e =
         record {
           template = valid-code (ruleAt t k) (rule-valid t slots valid es cycle k (w .rule-low) (w .rule-high));
           falls = cycle .order;
           low = w .position-low;
           high = w .position-high;
           active = e;
+        }
+
+    decides : (φ : Formula) → Agrees (ruleAt t k) es i φ → Decides r k i (ruleAt t k) es φ
+    decides φ a =
+        record {
+          fulfilled = stands-fulfilled r k i (verdict (ruleAt t k) es i) answer _ (a .fulfilled);
+          violated = stands-violated r k i (verdict (ruleAt t k) es i) answer _ (a .violated);
         }
 
 pub demand2-grown : Demand2Grown

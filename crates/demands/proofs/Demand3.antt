@@ -18,7 +18,6 @@ use Rattle.declare.specs.Events.{lastTime}
 use Rattle.declare.specs.Rules.{validRule, rulesOf, validTable}
 use Rattle.declare.specs.Continuations.{horizon}
 use Rattle.declare.specs.Steps.{Cycle, taken}
-use Rattle.declare.proofs.Exactness.{exactness, idle-elsewhere}
 use Rattle.declare.proofs.Steps.{cycle-of-taken}
 use Rattle.declare.specs.Refusals.{number}
 use Rattle.judge.specs.declared.Cell.{Cell}
@@ -29,7 +28,7 @@ use Rattle.run.specs.Replies.{Reply, accepted, refused}
 use Rattle.run.specs.Records.{ruleAt, validRun}
 use Rattle.run.specs.Close.{closedRun}
 use Rattle.run.specs.Queries.{oneOf, totalsBy, standingOf, totalsOf}
-use Rattle.run.specs.Takes.{grown, finished, RunOf, Takes}
+use Rattle.run.specs.Takes.{grown, running, finished, RunOf, Answers, Takes}
 use Rattle.run.proofs.Bounds.{rules-within}
 use Rattle.run.proofs.Takes.{rule-valid, takes}
 use Rattle.cycle_text.specs.Written.{eventsText}
@@ -42,18 +41,13 @@ use Rattle.notebook.specs.Notebook.{accepted as readAs, notebookOf}
 use Rattle.notebook.proofs.Cells.{same-cells}
 use Rattle.notebook.proofs.Tables.{table-slots, table-valid, rule-count, same-count, tidy-rule}
 use Rattle.notebook.proofs.Grown.{taken-cycle, finished-is-grown, accepted-texts}
+use Rattle.demands.proofs.Early.{early-at}
 use Rattle.demands.specs.Demand3.{EarlyVerdicts, rewritten, ReadBack, Demand3, EveryTable}
 
-last-time : (es : List Event) → lastTime es ≤ horizon es
-unfolding horizon
-last-time es = omega arith
-
-early : (t : Table) (es : List Event) → length (t .rules) ≡ 16 → validTable t ≡ true → Cycle es → EarlyVerdicts t es
-early t es slots valid cycle =
-    record {
-      exact = λ k i w e. exactness (ruleAt t k) es (horizon es) i (rule-valid t slots valid es cycle k (w .rule-low) (w .rule-high)) (cycle .formed) (cycle .order) (last-time es) (w .position-low) (w .position-high) e;
-      idle = λ k i w. idle-elsewhere (ruleAt t k) es (horizon es) i;
-    }
+early : (t : Table) (es : List Event) (r : Run) → length (t .rules) ≡ 16 → validTable t ≡ true → Cycle es → Answers t es (running es) r → EarlyVerdicts t es r
+early t es r slots valid cycle answers k i w =
+    early-at (ruleAt t k) es r k i (rule-valid t slots valid es cycle k (w .rule-low) (w .rule-high)) (cycle .formed) (cycle .order) (w .position-low) (w .position-high)
+    (answers .standing k i (w .rule-low) (w .rule-high) (w .position-low) (w .position-high))
 
 -- ---- the notebook
 
@@ -141,6 +135,6 @@ pub demand3 : EveryTable
 demand3 t offered slots valid =
     record {
       takes = takes t offered slots valid;
-      early = early t (taken offered) slots valid (cycle-of-taken offered);
+      early = early t (taken offered) (grown t offered) slots valid (cycle-of-taken offered) (takes t offered slots valid .answers);
       notebook = (read t offered slots valid, notebook t offered slots valid);
     }

@@ -3,6 +3,8 @@ pub mod Chains
 pub mod Texts
 pub mod Fields
 pub mod Lines
+pub mod Standings
+pub mod Early
 pub mod Demand1
 pub mod Demand2
 pub mod Demand3

@@ -1,6 +1,7 @@
 -- Demand 2: "in a closed cycle" exactly the events that fit are activations, each "fulfilled when its template's published formula holds
--- there, otherwise violated".
+-- there, otherwise violated, and the target named is the one document 01 picks". All of it of what the call standing answers.
 use mathlib.Core.Path.{_≡_}
+use mathlib.Core.Logic.{_↔_}
 use mathlib.Core.Bool.{true, false}
 use mathlib.Core.List.{List}
 use Prim.Native.Nat.{ℕ, _≤_}
@@ -8,13 +9,17 @@ use lib.ListN.{length}
 use Rattle.declare.specs.declared.Event.{Event}
 use Rattle.declare.specs.declared.Rule.{Rule}
 use Rattle.declare.specs.declared.Table.{Table}
-use Rattle.declare.specs.declared.Standing.the-variants.{Idle}
+use Rattle.declare.specs.declared.Standing.{Standing}
+use Rattle.declare.specs.declared.Standing.the-variants.{Idle, Fulfilled, Violated}
+use Rattle.declare.specs.Events.{eventAt}
 use Rattle.declare.specs.Rules.{validTable}
 use Rattle.declare.specs.Suits.{activationAt}
 use Rattle.declare.specs.Verdicts.{verdict}
 use Rattle.declare.specs.Steps.{taken}
+use Rattle.declare.specs.Words.{Names, targetIn}
+use Rattle.formula.specs.Formula.{Formula, Holds}
 use Rattle.formula.specs.Table.{fixedOf, publishedOf}
-use Rattle.formula.specs.Agreement.{Agrees, Unending}
+use Rattle.formula.specs.Agreement.{Unending}
 use Rattle.run.specs.declared.Run.{Run}
 use Rattle.run.specs.Replies.{accepted}
 use Rattle.run.specs.Records.{ruleAt}
@@ -34,21 +39,36 @@ pub record Within (t : Table) (es : List Event) (k i : ℕ) : Type 0 where
   pub position-low : 1 ≤ i
   pub position-high : i ≤ length es
 
--- the closed run r of the rules t and the events es
-pub record FollowsFormulas (t : Table) (es : List Event) (r : Run) : Type 0 where
-  -- the answer is the verdict
-  pub verdicts : (k i : ℕ) → Within t es k i → standingOf r k i ≡ accepted (verdict (ruleAt t k) es i)
-  -- an event that does not fit is no activation
-  pub idle : (k i : ℕ) → Within t es k i → activationAt (ruleAt t k) es i ≡ false → standingOf r k i ≡ accepted Idle
-  -- one that fits is, and the formula decides; for 3 and 6 with the window from the activation, as document 01 fixes it
-  pub fixed : (k i : ℕ) → Within t es k i → activationAt (ruleAt t k) es i ≡ true → Agrees (ruleAt t k) es i (fixedOf (ruleAt t k))
+-- what the call standing answers, whatever target it names
+abbrev pub StandsFulfilled : Run → ℕ → ℕ → Type 0
+StandsFulfilled r k i = (j : ℕ) × (standingOf r k i ≡ accepted (Fulfilled j))
+
+abbrev pub StandsViolated : Run → ℕ → ℕ → Type 0
+StandsViolated r k i = (j : ℕ) × (standingOf r k i ≡ accepted (Violated j))
+
+-- "fulfilled when .. formula holds there, otherwise violated"
+pub record Decides (r : Run) (k i : ℕ) (rule : Rule) (es : List Event) (φ : Formula) : Type 0 where
+  pub fulfilled : StandsFulfilled r k i ↔ Holds rule es (eventAt es i) φ i
+  pub violated : StandsViolated r k i ↔ (Holds rule es (eventAt es i) φ i → ⊥)
+
+-- rule k at position i of the closed run r, whose events are es
+pub record Follows (rule : Rule) (es : List Event) (r : Run) (k i : ℕ) : Type 0 where
+  pub verdicts : standingOf r k i ≡ accepted (verdict rule es i)
+  -- an event that does not fit stands idle, and no other does
+  pub idle : (standingOf r k i ≡ accepted Idle) ↔ (activationAt rule es i ≡ false)
+  -- one that fits is an activation, and the formula decides; for 3 and 6 as document 01 fixes it
+  pub fixed : activationAt rule es i ≡ true → Decides r k i rule es (fixedOf rule)
   -- Table 2 to the letter; for 3 and 6 where the window is 0 to no end
-  pub published : (k i : ℕ)
-      → Within t es k i
-      → activationAt (ruleAt t k) es i ≡ true
-      → (ruleAt t k .code ≡ 3 → Unending (ruleAt t k))
-      → (ruleAt t k .code ≡ 6 → Unending (ruleAt t k))
-      → Agrees (ruleAt t k) es i (publishedOf (ruleAt t k))
+  pub published : activationAt rule es i ≡ true
+      → (rule .code ≡ 3 → Unending rule)
+      → (rule .code ≡ 6 → Unending rule)
+      → Decides r k i rule es (publishedOf rule)
+  -- "the target named is the one document 01 picks": the earliest eligible position, or 0 if there is none
+  pub names : activationAt rule es i ≡ true → (s : Standing) → standingOf r k i ≡ accepted s → Names rule es i (targetIn s)
+
+-- the closed run r of the rules t and the events es
+abbrev pub FollowsFormulas : Table → List Event → Run → Type 0
+FollowsFormulas t es r = (k i : ℕ) → Within t es k i → Follows (ruleAt t k) es r k i
 
 -- a grown run, closed; proved as `demand2-grown`
 abbrev pub Demand2Grown : Type 0

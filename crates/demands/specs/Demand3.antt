@@ -2,33 +2,65 @@
 use mathlib.Core.Path.{_≡_}
 use mathlib.Core.Logic.{_↔_}
 use mathlib.Core.Bool.{true, false}
-use mathlib.Core.List.{List, map}
+use mathlib.Core.List.{List, _++_, map}
 use Prim.Native.Nat.{ℕ}
 use lib.ListN.{length}
 use Rattle.declare.specs.declared.Event.{Event}
 use Rattle.declare.specs.declared.Table.{Table}
-use Rattle.declare.specs.declared.Standing.the-variants.{Idle}
+use Rattle.declare.specs.declared.Rule.{Rule}
+use Rattle.declare.specs.declared.Standing.{Standing}
+use Rattle.declare.specs.declared.Standing.the-variants.{Idle, Open}
 use Rattle.declare.specs.Rules.{rulesOf, validTable}
 use Rattle.declare.specs.Suits.{activationAt}
-use Rattle.declare.specs.Continuations.{horizon}
+use Rattle.declare.specs.Standings.{isFulfilled, isViolated, isDecided}
+use Rattle.declare.specs.Verdicts.{verdict}
+use Rattle.declare.specs.Continuations.{horizon, continuation}
 use Rattle.declare.specs.Steps.{taken}
-use Rattle.declare.specs.Exactness.{Exact}
+use Rattle.declare.specs.Exactness.{InEvery, InSome}
 use Rattle.run.specs.declared.Run.{Run}
-use Rattle.run.specs.Records.{ruleAt}
+use Rattle.run.specs.Replies.{accepted}
+use Rattle.run.specs.Records.{eventsOf, ruleAt, Sized}
+use Rattle.run.specs.Take.{takeOf}
 use Rattle.run.specs.Close.{closedRun}
 use Rattle.run.specs.Queries.{standingOf, totalsOf}
-use Rattle.run.specs.Takes.{grown, running, finished, RunOf, Takes}
+use Rattle.run.specs.Takes.{grown, finished, RunOf, Takes}
 use Rattle.cycle_text.specs.Written.{eventsText}
 use Rattle.rule_text.specs.Reads.{tableOf}
 use Rattle.rule_text.specs.Written.{rulesText, tidy}
-use Rattle.notebook.specs.Notebook.{accepted, notebookOf}
-use Rattle.demands.specs.Demand2.{Within}
+use Rattle.notebook.specs.Notebook.{accepted as readAs, notebookOf}
+use Rattle.demands.specs.Demand2.{Within, StandsFulfilled, StandsViolated}
 
--- "each event of the list that fits": its standing, which is the answer of standing, says how all continuations end
-pub record EarlyVerdicts (t : Table) (es : List Event) : Type 0 where
-  pub exact : (k i : ℕ) → Within t es k i → activationAt (ruleAt t k) es i ≡ true → Exact (ruleAt t k) es (horizon es) i
-  -- "every other stands idle"
-  pub idle : (k i : ℕ) → Within t es k i → (running es (ruleAt t k) i ≡ Idle) ↔ (activationAt (ruleAt t k) es i ≡ false)
+-- ---- early verdicts
+
+-- what the call standing answers for rule k at position i of the run r, and how all cycles that begin with its events es end there
+pub record Early (rule : Rule) (es : List Event) (r : Run) (k i : ℕ) : Type 0 where
+  -- "fulfilled exactly when it is fulfilled in every continuation"
+  pub fulfilled : StandsFulfilled r k i ↔ InEvery isFulfilled rule es (horizon es) i
+  -- "violated exactly when it is violated in every continuation"
+  pub violated : StandsViolated r k i ↔ InEvery isViolated rule es (horizon es) i
+  -- "open exactly when two continuations differ on it"
+  pub undecided : (standingOf r k i ≡ accepted Open) ↔ (InSome isFulfilled rule es (horizon es) i × InSome isViolated rule es (horizon es) i)
+  -- "every other taken event stands idle"
+  pub idle : (standingOf r k i ≡ accepted Idle) ↔ (activationAt rule es i ≡ false)
+  -- a decided one keeps its verdict and its target in every continuation
+  pub kept : (s : Standing) → standingOf r k i ≡ accepted s → isDecided s ≡ true
+      → (added : List Event) → continuation (horizon es) added ≡ true → verdict rule (es ++ added) i ≡ s
+
+-- of a run with the rules t and the events es
+abbrev pub EarlyVerdicts : Table → List Event → Run → Type 0
+EarlyVerdicts t es r = (k i : ℕ) → Within t es k i → Early (ruleAt t k) es r k i
+
+-- a record nobody grew, r, and the one after an accepted take, `next`: "decided standings at taken positions are carried over, all others
+-- follow from the events now in the record"
+pub record TakenFrom (r next : Run) (k i : ℕ) : Type 0 where
+  pub carried : (s : Standing) → standingOf r k i ≡ accepted s → isDecided s ≡ true → standingOf next k i ≡ accepted s
+  pub judged : ((s : Standing) → standingOf r k i ≡ accepted s → isDecided s ≡ false) → Early (ruleAt (next .table) k) (eventsOf next) next k i
+
+-- proved as `every-record`
+abbrev pub EveryRecord : Type 0
+EveryRecord =
+    (r next : Run) (e : Event) → Sized r → takeOf r e ≡ accepted next
+    → (k i : ℕ) → Within (next .table) (eventsOf next) k i → TakenFrom r next k i
 
 -- ---- the notebook
 
@@ -39,7 +71,7 @@ rewritten t = tableOf (map tidy (rulesOf t))
 -- "the notebook reading on the two texts whose lines are the table's rules and the taken events" gives the run r, and r answers as the
 -- grown run does after close
 pub record ReadBack (t : Table) (offered : List Event) (r : Run) : Type 0 where
-  pub reply : notebookOf (rulesText (rulesOf t)) (eventsText (taken offered)) ≡ accepted r
+  pub reply : notebookOf (rulesText (rulesOf t)) (eventsText (taken offered)) ≡ readAs r
   pub run : RunOf (rewritten t) (taken offered) true (finished (taken offered)) r
   pub cells : r .cells ≡ closedRun (grown t offered) .cells
   pub standing : (k i : ℕ) → standingOf r k i ≡ standingOf (closedRun (grown t offered)) k i
@@ -51,7 +83,7 @@ pub record ReadBack (t : Table) (offered : List Event) (r : Run) : Type 0 where
 pub record Demand3 (t : Table) (offered : List Event) : Type 0 where
   -- the run has the table and exactly the taken events; each call on it, and after close, answers as they say
   pub takes : Takes t offered
-  pub early : EarlyVerdicts t (taken offered)
+  pub early : EarlyVerdicts t (taken offered) (grown t offered)
   pub notebook : (r : Run) × ReadBack t offered r
 
 -- proved as `demand3`
