@@ -19,7 +19,7 @@ use Rattle.declare.specs.Steps.{taken}
 use Rattle.declare.specs.Words.{Names, targetIn}
 use Rattle.formula.specs.Formula.{Formula, Holds}
 use Rattle.formula.specs.Table.{fixedOf, publishedOf}
-use Rattle.formula.specs.Agreement.{Unending}
+use Rattle.formula.specs.Agreement.{Plain}
 use Rattle.run.specs.declared.Run.{Run}
 use Rattle.run.specs.Replies.{accepted}
 use Rattle.run.specs.Records.{ruleAt}
@@ -56,12 +56,13 @@ pub record Follows (rule : Rule) (es : List Event) (r : Run) (k i : ℕ) : Type 
   pub verdicts : standingOf r k i ≡ accepted (verdict rule es i)
   -- an event that does not fit stands idle, and no other does
   pub idle : (standingOf r k i ≡ accepted Idle) ↔ (activationAt rule es i ≡ false)
-  -- one that fits is an activation, and the formula decides; for 3 and 6 as document 01 fixes it
+  -- one that fits is an activation, and the formula decides, 3 and 6 as document 01 fixes them: the window from the activation, and
+  -- no activation of the rule on the way, tested of the event at hand
   pub fixed : activationAt rule es i ≡ true → Decides r k i rule es (fixedOf rule)
-  -- Table 2 to the letter; for 3 and 6 where the window is 0 to no end
+  -- Table 2 to the letter; 3 and 6 where the window is 0 to no end and there is no activation condition
   pub published : activationAt rule es i ≡ true
-      → (rule .code ≡ 3 → Unending rule)
-      → (rule .code ≡ 6 → Unending rule)
+      → (rule .code ≡ 3 → Plain rule)
+      → (rule .code ≡ 6 → Plain rule)
       → Decides r k i rule es (publishedOf rule)
   -- "the target named is the one document 01 picks": the earliest eligible position, or 0 if there is none
   pub names : activationAt rule es i ≡ true → (s : Standing) → standingOf r k i ≡ accepted s → Names rule es i (targetIn s)

@@ -1,13 +1,15 @@
 -- The logic of document 001, section 3.2, as far as its Table 2 goes: formulas, and Definition 3 over a list of events.
 use mathlib.Core.Path.{_≡_}
-use mathlib.Core.Bool.{Bool, true}
+use mathlib.Core.Bool.{Bool, true, _&&_}
 use mathlib.Core.List.{List}
 use Prim.Native.Nat.{ℕ, _+_, _-_, _≤_, _<_}
+use lib.Dec.{eqb}
 use lib.ListN.{length}
 use Rattle.declare.specs.declared.Event.{Event}
 use Rattle.declare.specs.declared.End.the-variants.{Never}
 use Rattle.declare.specs.declared.Window.{Window}
 use Rattle.declare.specs.declared.Rule.{Rule}
+use Rattle.declare.specs.Conditions.{met}
 use Rattle.declare.specs.Events.{eventAt}
 use Rattle.declare.specs.Suits.{isActivation, within, between, correlates}
 
@@ -16,8 +18,10 @@ abbrev pub always : Window
 always = record { from = 0; until = Never }
 
 pub data Formula : Type 0 where
-  -- the event is an activation of the rule: A ∧ φ_a
+  -- the event is an activation of the rule: A, and φ_a of the event's own readings
   Activation : Formula
+  -- A ∧ φ_a(x) to the letter: the event has the activation activity, and φ_a is asked of x, the activation judged
+  BoundActivation : Formula
   -- the event has the target activity and meets the correlation against the activation judged: B ∧ φ_c
   Target : Formula
   -- the event lies so far in time from the activation judged: φ_τ
@@ -39,6 +43,7 @@ timeAt es i = eventAt es i .time
 -- U's k is printed as k ∈ [j, i), which is empty; it is read as [i, j).
 unfoldable pub Holds : Rule → List Event → Event → Formula → ℕ → Type 0
 Holds r es a Activation i = isActivation r (eventAt es i) ≡ true
+Holds r es a BoundActivation i = (eqb (eventAt es i .activity) (r .activation) && met (r .condition) a a) ≡ true
 Holds r es a Target i = correlates r a (eventAt es i) ≡ true
 Holds r es a (Within I) i = within I (between (a .time) (timeAt es i)) ≡ true
 Holds r es a (Not φ) i = Holds r es a φ i → ⊥
