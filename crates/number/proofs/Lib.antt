@@ -3,5 +3,6 @@ pub mod Digits
 pub mod Signed
 pub mod Answers
 pub mod Written
+pub mod Lengths
 pub mod Quoted
 pub mod Vectors
