@@ -4,4 +4,5 @@ pub mod Joined
 pub mod Answers
 pub mod Values
 pub mod Texts
+pub mod Lengths
 pub mod Vectors

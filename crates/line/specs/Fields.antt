@@ -1,9 +1,13 @@
 -- "One record a line, fields parted by a tab, each line ended by LF (byte 10)": parts of a list of bytes, and what they are parts of.
-use mathlib.Core.Bool.{cond}
+use mathlib.Core.Bool.{Bool, cond}
 use mathlib.Core.List.{List, [], _∷_, _++_}
 use Prim.Native.Nat.{ℕ, suc, _+_}
-use lib.Dec.{eqb}
+use lib.Dec.{eqb, ltb}
 use lib.ListN.{drop}
+
+-- a text is a list of numbers; a file holds those below 256
+unfoldable pub isByte : ℕ → Bool
+isByte b = ltb b 256
 
 -- the bytes that part lines, and the fields of a line
 abbrev pub LF : ℕ
