@@ -2,4 +2,5 @@
 pub mod Steps
 pub mod Turns
 pub mod RoundTrips
+pub mod Lengths
 pub mod Vectors

@@ -116,16 +116,16 @@ cycle-more above fields e s h =
 
 -- ---- a line that is written
 
-record Formed (e : Event) : Type 0 where
-  time : e .time ≤ 4294967295
-  low : 1 ≤ e .activity
-  high : e .activity ≤ 64
-  reading1 : inRange (operandOf (e .reading1)) ≡ true
-  reading2 : inRange (operandOf (e .reading2)) ≡ true
-  reading3 : inRange (operandOf (e .reading3)) ≡ true
-  reading4 : inRange (operandOf (e .reading4)) ≡ true
+pub record Formed (e : Event) : Type 0 where
+  pub time : e .time ≤ 4294967295
+  pub low : 1 ≤ e .activity
+  pub high : e .activity ≤ 64
+  pub reading1 : inRange (operandOf (e .reading1)) ≡ true
+  pub reading2 : inRange (operandOf (e .reading2)) ≡ true
+  pub reading3 : inRange (operandOf (e .reading3)) ≡ true
+  pub reading4 : inRange (operandOf (e .reading4)) ≡ true
 
-formed : (e : Event) → wellFormed e ≡ true → Formed e
+pub formed : (e : Event) → wellFormed e ≡ true → Formed e
 unfolding wellFormed latest isActivity readingsInRange all
 formed e h =
     let p : (leb (e .time) 4294967295 ≡ true) × (isActivity (e .activity) ≡ true) × (readingsInRange e ≡ true) = and₃ h in

@@ -2,8 +2,9 @@
 use mathlib.Core.Path.{_≡_, refl}
 use mathlib.Core.List.{List, [], _∷_, _++_}
 use Prim.Native.Nat.{ℕ, zero, suc}
+use Prim.Native.String.{String}
 use lib.IntN.{pos, negsuc}
-use lib.ListN.{replicate}
+use lib.ListN.{length, replicate}
 use Rattle.declare.specs.Events.{lastFrom, lastTime, emptySlot}
 use Rattle.number.specs.Number.{digit, digits, none, zeroAlone, positive, negative, naturalForm, integerForm, dash, valueFrom, valueOf, integerValue, inRange, naturalOf, inSignedRange, integerOf}
 use Rattle.number.specs.Written.{digitsIn, digitsOf, integerText}
@@ -35,6 +36,15 @@ abbrev listingText : List ℕ
 listingText =
     bytes "0\t1\t7\t-\t-\t-\n400\t2\t7\t-\t-\t-\n400\t3\t7\t-\t-\t-\n900\t3\t7\t-\t-\t-\n1000\t1\t7\t-\t-\t-\n1500\t2\t7\t-\t-\t-\n"
 
+-- no line that is accepted has more bytes
+abbrev longestText : String
+longestText = "4294967295\t64\t-2147483648\t-2147483648\t-2147483648\t-2147483648\n"
+
+abbrev longest : Event
+longest =
+    let lowest : Reading = Value (negsuc 2147483647) in
+    record { time = 4294967295; activity = 64; reading1 = lowest; reading2 = lowest; reading3 = lowest; reading4 = lowest }
+
 abbrev accepted : List (Case (Records Event))
 accepted =
     "" gives All []
@@ -43,6 +53,7 @@ accepted =
     ∷ "0\t1\t0\t-\t-\t-\n" gives All (event 0 1 (Value (pos 0)) ∷ [])
     ∷ "4294967295\t64\t2147483647\t-\t-\t-\n" gives All (event 4294967295 64 (Value (pos 2147483647)) ∷ [])
     ∷ "0\t1\t-2147483648\t-\t-\t-\n" gives All (event 0 1 (Value (negsuc 2147483647)) ∷ [])
+    ∷ longestText gives All (longest ∷ [])
     ∷ []
 
 -- each cause, with its line
@@ -126,6 +137,7 @@ pub record Vectors : Type 0 where
   pub listing-read : cycleTextOf listingText ≡ All listing
   pub listing-written : eventsText listing ≡ listingText
   pub of-accepted : Checked cycleTextOf accepted
+  pub of-longest : length (bytes longestText) ≡ 62
   pub of-refused : Checked cycleTextOf refused
   pub of-ordered : Checked cycleTextOf ordered
   pub of-full : Checked (λ s. cycleTextOf (times 256 (bytes "5\t1\t-\t-\t-\t-\n") ++ s)) full
@@ -139,6 +151,7 @@ vectors =
       listing-read = refl;
       listing-written = refl;
       of-accepted = refl;
+      of-longest = refl;
       of-refused = refl;
       of-ordered = refl;
       of-full = refl;

@@ -1,9 +1,13 @@
 -- Events written as a cycle text, and what is proved of writing and reading.
 use mathlib.Core.Path.{_≡_}
+use mathlib.Core.Bool.{true}
 use mathlib.Core.List.{List, [], _∷_}
-use Prim.Native.Nat.{ℕ}
+use Prim.Native.Nat.{ℕ, _*_, _≤_}
+use lib.ListN.{length}
+use Rattle.declare.specs.Lists.{all}
 use Rattle.declare.specs.Steps.{Cycle}
 use Rattle.number.specs.Written.{digitsOf}
+use Rattle.line.specs.Fields.{isByte}
 use Rattle.line.specs.Values.{readingText}
 use Rattle.line.specs.Texts.{All, writtenLine, writtenText}
 use Rattle.cycle_text.specs.Types.{Event}
@@ -33,3 +37,10 @@ pub record RoundTrips : Type 0 where
   pub read : (es : List Event) → Cycle es → cycleTextOf (eventsText es) ≡ All es
   -- "an accepted text comes out again byte for byte"
   pub again : (text : List ℕ) (es : List Event) → cycleTextOf text ≡ All es → eventsText es ≡ text
+
+-- proved in proofs/Lengths
+pub record WrittenBytes : Type 0 where
+  pub bytes : (es : List Event) → Cycle es → all isByte (eventsText es) ≡ true
+  -- a line: a time of at most 10 digits, an activity of 2, four readings of at most 11 bytes, five
+  -- tabs and LF; so a cycle has at most 15872 bytes
+  pub most : (es : List Event) → Cycle es → length (eventsText es) ≤ 62 * length es
