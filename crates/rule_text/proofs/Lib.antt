@@ -7,4 +7,5 @@ pub mod Lines
 pub mod Turns
 pub mod Tidy
 pub mod RoundTrips
+pub mod Lengths
 pub mod Vectors

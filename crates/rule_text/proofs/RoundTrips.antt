@@ -202,21 +202,21 @@ accepted-text text rs h = accepted ruleAfter Accepted accepted-none accepted-mor
 
 -- ---- a line that is written
 
-record Limits (r : Rule) : Type 0 where
-  code : (1 ≤ r .code) × (r .code ≤ 12)
-  activation : (1 ≤ r .activation) × (r .activation ≤ 64)
-  target : (1 ≤ r .target) × (r .target ≤ 64)
-  from : r .window .from ≤ 4294967295
-  until : validEnd (r .window .from) (r .window .until) ≡ true
-  condition : validCondition false (r .condition) ≡ true
-  correlation : validCondition true (r .correlation) ≡ true
+pub record Limits (r : Rule) : Type 0 where
+  pub code : (1 ≤ r .code) × (r .code ≤ 12)
+  pub activation : (1 ≤ r .activation) × (r .activation ≤ 64)
+  pub target : (1 ≤ r .target) × (r .target ≤ 64)
+  pub from : r .window .from ≤ 4294967295
+  pub until : validEnd (r .window .from) (r .window .until) ≡ true
+  pub condition : validCondition false (r .condition) ≡ true
+  pub correlation : validCondition true (r .correlation) ≡ true
 
 ends : (low high n : ℕ) → (leb low n && leb n high) ≡ true → (low ≤ n) × (n ≤ high)
 ends low high n h =
     let p : (leb low n ≡ true) × (leb n high ≡ true) = and₂ h in
     (leb-true low n (p .0), leb-true n high (p .1))
 
-limits : (r : Rule) → validRule r ≡ true → Limits r
+pub limits : (r : Rule) → validRule r ≡ true → Limits r
 unfolding validRule validHead validWindow isTemplate isActivity latest
 limits r h =
     let p : (validHead r ≡ true) × (validCondition false (r .condition) ≡ true) × (validCondition true (r .correlation) ≡ true) = and₃ h in

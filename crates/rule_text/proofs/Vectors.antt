@@ -3,8 +3,9 @@ use mathlib.Core.Path.{_≡_, refl}
 use mathlib.Core.Bool.{true, false}
 use mathlib.Core.List.{List, [], _∷_, _++_}
 use Prim.Native.Nat.{ℕ, zero, suc}
-use lib.IntN.{pos, negsuc}
-use lib.ListN.{replicate}
+use Prim.Native.String.{String}
+use lib.IntN.{ℤ, pos, negsuc}
+use lib.ListN.{length, replicate}
 use Rattle.declare.specs.Conditions.{comparisonsOf}
 use Rattle.declare.specs.Lists.{any}
 use Rattle.declare.specs.Rules.{noComparison, noCondition, noRule}
@@ -136,12 +137,34 @@ listing =
 abbrev listingText : List ℕ
 listingText = bytes "2\t1\t2\t0\t500\t-\t-\n6\t3\t2\t0\t-\t-\t1=@1:0\n"
 
+-- no line that is accepted has more bytes
+abbrev longestText : String
+longestText =
+    "12\t64\t64\t4294967294\t4294967295\t1=-2147483648,2=-2147483648,3=-2147483648,4=-2147483648\t1=@1:-2147483648,2=@1:-2147483648,3=@1:-2147483648,4=@1:-2147483648\n"
+
+-- readings 1 to 4
+abbrev each : Reference → Condition
+each k = conditionOf (compares 1 Equal k ∷ compares 2 Equal k ∷ compares 3 Equal k ∷ compares 4 Equal k ∷ [])
+
+abbrev longest : Rule
+longest =
+    let lowest : ℤ = negsuc 2147483647 in
+    record {
+      code = 12;
+      activation = 64;
+      target = 64;
+      window = record { from = 4294967294; until = At 4294967295 };
+      condition = each (Constant lowest);
+      correlation = each (Activation 1 lowest);
+    }
+
 abbrev accepted : List (Case (Records Rule))
 accepted =
     "" gives All []
     ∷ "1\t1\t1\t0\t1\t-\t-\n" gives All (rule 1 1 1 0 (At 1) (conditionOf []) ∷ [])
     ∷ "12\t64\t64\t4294967294\t4294967295\t-\t-\n" gives All (rule 12 64 64 4294967294 (At 4294967295) (conditionOf []) ∷ [])
     ∷ "7\t3\t3\t4294967295\t-\t-\t-\n" gives All (rule 7 3 3 4294967295 Never (conditionOf []) ∷ [])
+    ∷ longestText gives All (longest ∷ [])
     ∷ []
 
 -- each cause, with its line
@@ -252,6 +275,7 @@ pub record Vectors : Type 0 where
   pub listing-read : rulesTextOf listingText ≡ All listing
   pub listing-written : rulesText listing ≡ listingText
   pub of-accepted : Checked rulesTextOf accepted
+  pub of-longest : length (bytes longestText) ≡ 155
   pub of-refused : Checked rulesTextOf refused
   pub of-ordered : Checked rulesTextOf ordered
   pub of-full : Checked (λ s. rulesTextOf (times 16 (bytes "1\t1\t1\t0\t-\t-\t-\n") ++ s)) full
@@ -268,6 +292,7 @@ vectors =
       listing-read = refl;
       listing-written = refl;
       of-accepted = refl;
+      of-longest = refl;
       of-refused = refl;
       of-ordered = refl;
       of-full = refl;

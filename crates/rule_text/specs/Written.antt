@@ -2,13 +2,13 @@
 use mathlib.Core.Path.{_≡_}
 use mathlib.Core.Bool.{true}
 use mathlib.Core.List.{List, [], _∷_, map}
-use Prim.Native.Nat.{ℕ, _+_, _≤_}
+use Prim.Native.Nat.{ℕ, _+_, _*_, _≤_}
 use lib.ListN.{length}
 use Rattle.declare.specs.Lists.{all}
 use Rattle.declare.specs.Conditions.{comparisonsOf}
 use Rattle.declare.specs.Rules.{validRule}
 use Rattle.number.specs.Written.{digitsOf, integerText}
-use Rattle.line.specs.Fields.{joined}
+use Rattle.line.specs.Fields.{isByte, joined}
 use Rattle.line.specs.Texts.{All, writtenLine, writtenText}
 use Rattle.rule_text.specs.Types.{Operator, Equal, NotEqual, Less, AtMost, Greater, AtLeast, Reference, Constant, Activation, Comparison, Condition, End, Never, At, Rule}
 use Rattle.rule_text.specs.Conditions.{comma, conditionOf}
@@ -93,3 +93,11 @@ pub record RoundTrips : Type 0 where
   pub read : (rs : List Rule) → Sound rs → rulesTextOf (rulesText rs) ≡ All (map tidy rs)
   -- "an accepted text comes out again byte for byte"
   pub again : (text : List ℕ) (rs : List Rule) → rulesTextOf text ≡ All rs → rulesText rs ≡ text
+
+-- proved in proofs/Lengths
+pub record WrittenBytes : Type 0 where
+  pub bytes : (rs : List Rule) → Sound rs → all isByte (rulesText rs) ≡ true
+  -- a line: a code and two activities of at most 2 digits, a and b of at most 10, an activation
+  -- condition of at most four `1=k` of 13 bytes and three commas, a correlation of at most four
+  -- `1=@1:k` of 16 bytes and three commas, six tabs and LF; so a table has at most 2480 bytes
+  pub most : (rs : List Rule) → Sound rs → length (rulesText rs) ≤ 155 * length rs
