@@ -17,7 +17,7 @@ use Rattle.rule_text.specs.Rules.{rulesTextOf}
 use Rattle.declare.specs.Events.{lastTime}
 use Rattle.declare.specs.Rules.{validRule, rulesOf, validTable}
 use Rattle.declare.specs.Continuations.{horizon}
-use Rattle.declare.specs.Steps.{Cycle, taken}
+use Rattle.declare.specs.Steps.{Cycle, capacity, taken}
 use Rattle.declare.proofs.Steps.{cycle-of-taken}
 use Rattle.declare.specs.Refusals.{number}
 use Rattle.judge.specs.declared.Cell.{Cell}
@@ -36,13 +36,15 @@ use Rattle.cycle_text.specs.Reads.{padded}
 use Rattle.cycle_text.proofs.RoundTrips.{round-trips as cycle-trips}
 use Rattle.rule_text.specs.Written.{Sound, rulesText, tidy}
 use Rattle.rule_text.proofs.RoundTrips.{round-trips as rules-trips}
+use Rattle.cycle_text.proofs.Lengths.{written-bytes as cycle-bytes}
+use Rattle.rule_text.proofs.Lengths.{written-bytes as rules-bytes}
 use Rattle.rule_text.proofs.Tidy.{tidy-verdict}
 use Rattle.notebook.specs.Notebook.{accepted as readAs, notebookOf}
 use Rattle.notebook.proofs.Cells.{same-cells}
 use Rattle.notebook.proofs.Tables.{table-slots, table-valid, rule-count, same-count, tidy-rule}
 use Rattle.notebook.proofs.Grown.{taken-cycle, finished-is-grown, accepted-texts}
 use Rattle.demands.proofs.Early.{early-at}
-use Rattle.demands.specs.Demand3.{EarlyVerdicts, rewritten, ReadBack, Demand3, EveryTable}
+use Rattle.demands.specs.Demand3.{EarlyVerdicts, rewritten, Bytes, ReadBack, Demand3, EveryTable}
 
 early : (t : Table) (es : List Event) (r : Run) → length (t .rules) ≡ 16 → validTable t ≡ true → Cycle es → Answers t es (running es) r → EarlyVerdicts t es r
 early t es r slots valid cycle answers k i w =
@@ -80,6 +82,16 @@ module _ (t : Table) (offered : List Event) (slots : length (t .rules) ≡ 16) (
 
   read-rules : rulesTextOf (rulesText (rulesOf t)) ≡ All (map tidy (rulesOf t))
   read-rules = rules-trips .read (rulesOf t) (sound-rules t valid (rw (rule-count t slots few) few))
+
+  rules-text : Bytes 2480 (rulesText (rulesOf t))
+  rules-text =
+      let n : length (rulesOf t) ≤ 16 = rw (rule-count t slots few) few in
+      let s : Sound (rulesOf t) = sound-rules t valid n in
+      record { bytes = rules-bytes .bytes (rulesOf t) s; few = omega (arith, rules-bytes .most (rulesOf t) s) }
+
+  cycle-text : Bytes 15872 (eventsText es)
+  unfolding capacity
+  cycle-text = record { bytes = cycle-bytes .bytes es cycle; few = omega (arith, cycle-bytes .most es cycle, cycle .most) }
 
   rules-sound : Sound (map tidy (rulesOf t))
   rules-sound = rules-trips .sound (rulesText (rulesOf t)) (map tidy (rulesOf t)) read-rules .0
@@ -124,6 +136,8 @@ module _ (t : Table) (offered : List Event) (slots : length (t .rules) ≡ 16) (
   notebook : ReadBack t offered read
   notebook =
       record {
+        rules-text = rules-text;
+        cycle-text = cycle-text;
         reply = reply;
         run = read-run;
         cells = cells;

@@ -3,13 +3,14 @@ use mathlib.Core.Path.{_≡_}
 use mathlib.Core.Logic.{_↔_}
 use mathlib.Core.Bool.{true, false}
 use mathlib.Core.List.{List, _++_, map}
-use Prim.Native.Nat.{ℕ}
+use Prim.Native.Nat.{ℕ, _≤_}
 use lib.ListN.{length}
 use Rattle.declare.specs.declared.Event.{Event}
 use Rattle.declare.specs.declared.Table.{Table}
 use Rattle.declare.specs.declared.Rule.{Rule}
 use Rattle.declare.specs.declared.Standing.{Standing}
 use Rattle.declare.specs.declared.Standing.the-variants.{Idle, Open}
+use Rattle.declare.specs.Lists.{all}
 use Rattle.declare.specs.Rules.{rulesOf, validTable}
 use Rattle.declare.specs.Suits.{activationAt}
 use Rattle.declare.specs.Standings.{isFulfilled, isViolated, isDecided}
@@ -24,6 +25,7 @@ use Rattle.run.specs.Take.{takeOf}
 use Rattle.run.specs.Close.{closedRun}
 use Rattle.run.specs.Queries.{standingOf, totalsOf}
 use Rattle.run.specs.Takes.{grown, finished, RunOf, Takes}
+use Rattle.line.specs.Fields.{isByte}
 use Rattle.cycle_text.specs.Written.{eventsText}
 use Rattle.rule_text.specs.Reads.{tableOf}
 use Rattle.rule_text.specs.Written.{rulesText, tidy}
@@ -68,9 +70,17 @@ EveryRecord =
 abbrev pub rewritten : Table → Table
 rewritten t = tableOf (map tidy (rulesOf t))
 
+-- a list of numbers that a reader can be handed as bytes, at most so many
+pub record Bytes (most : ℕ) (text : List ℕ) : Type 0 where
+  pub bytes : all isByte text ≡ true
+  pub few : length text ≤ most
+
 -- "the notebook reading on the two texts whose lines are the table's rules and the taken events" gives the run r, and r answers as the
 -- grown run does after close
 pub record ReadBack (t : Table) (offered : List Event) (r : Run) : Type 0 where
+  -- both fit the 32768 bytes of a file of `report`
+  pub rules-text : Bytes 2480 (rulesText (rulesOf t))
+  pub cycle-text : Bytes 15872 (eventsText (taken offered))
   pub reply : notebookOf (rulesText (rulesOf t)) (eventsText (taken offered)) ≡ readAs r
   pub run : RunOf (rewritten t) (taken offered) true (finished (taken offered)) r
   pub cells : r .cells ≡ closedRun (grown t offered) .cells
