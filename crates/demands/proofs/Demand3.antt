@@ -1,6 +1,6 @@
 -- The claim over a list of takes, and the exactness of early verdicts for the list of taken events.
-use mathlib.Core.Path.{_≡_, refl, sym, ap, subst, _∙_}
-use mathlib.Core.Bool.{Bool, true, not, cond, _&&_}
+use mathlib.Core.Path.{_≡_, sym, ap, subst, _∙_}
+use mathlib.Core.Bool.{true}
 use mathlib.Core.List.{List, map}
 use Prim.Native.Nat.{ℕ, _≤_}
 use native.Mathlib.Omega.{arith}
@@ -14,25 +14,17 @@ use Rattle.declare.specs.Verdicts.{verdict}
 use Rattle.declare.proofs.Booleans.{and-right}
 use Rattle.line.specs.Texts.{All}
 use Rattle.rule_text.specs.Rules.{rulesTextOf}
-use Rattle.declare.specs.Events.{lastTime}
 use Rattle.declare.specs.Rules.{validRule, rulesOf, validTable}
-use Rattle.declare.specs.Continuations.{horizon}
 use Rattle.declare.specs.Steps.{Cycle, capacity, taken}
 use Rattle.declare.proofs.Steps.{cycle-of-taken}
-use Rattle.declare.specs.Refusals.{number}
-use Rattle.judge.specs.declared.Cell.{Cell}
-use Rattle.judge.specs.Cells.{standingIn}
 use Rattle.run.specs.declared.Run.{Run}
-use Rattle.run.specs.declared.Totals.{Totals}
-use Rattle.run.specs.Replies.{Reply, accepted, refused}
 use Rattle.run.specs.Records.{ruleAt, validRun}
 use Rattle.run.specs.Close.{closedRun}
-use Rattle.run.specs.Queries.{oneOf, totalsBy, standingOf, totalsOf}
-use Rattle.run.specs.Takes.{grown, running, finished, RunOf, Answers, Takes}
+use Rattle.run.specs.Queries.{standingOf, totalsOf}
+use Rattle.run.specs.Takes.{grown, running, finished, RunOf, Answers}
 use Rattle.run.proofs.Bounds.{rules-within}
 use Rattle.run.proofs.Takes.{rule-valid, takes}
 use Rattle.cycle_text.specs.Written.{eventsText}
-use Rattle.cycle_text.specs.Reads.{padded}
 use Rattle.cycle_text.proofs.RoundTrips.{round-trips as cycle-trips}
 use Rattle.rule_text.specs.Written.{Sound, rulesText, tidy}
 use Rattle.rule_text.proofs.RoundTrips.{round-trips as rules-trips}
@@ -44,7 +36,7 @@ use Rattle.notebook.proofs.Cells.{same-cells}
 use Rattle.notebook.proofs.Tables.{table-slots, table-valid, rule-count, same-count, tidy-rule}
 use Rattle.notebook.proofs.Grown.{taken-cycle, finished-is-grown, accepted-texts}
 use Rattle.demands.proofs.Early.{early-at}
-use Rattle.demands.specs.Demand3.{EarlyVerdicts, rewritten, Bytes, ReadBack, Demand3, EveryTable}
+use Rattle.demands.specs.Demand3.{EarlyVerdicts, rewritten, Bytes, ReadBack, EveryTable}
 
 early : (t : Table) (es : List Event) (r : Run) → length (t .rules) ≡ 16 → validTable t ≡ true → Cycle es → Answers t es (running es) r → EarlyVerdicts t es r
 early t es r slots valid cycle answers k i w =

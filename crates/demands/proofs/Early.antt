@@ -2,16 +2,15 @@
 -- idle. After a take on any valid record a standing is carried over or judged from the events now in it.
 use mathlib.Core.Path.{_≡_, refl, sym, ap, subst, _∙_}
 use mathlib.Core.Logic.{_↔_}
-use mathlib.Core.Bool.{Bool, true, false, not, cond, _&&_, true≢false, false≢true}
-use mathlib.Core.List.{List, [], _∷_, _++_}
-use Prim.Native.Nat.{ℕ, _+_, _-_, _≤_, _<_}
+use mathlib.Core.Bool.{Bool, true, false, _&&_, true≢false, false≢true}
+use mathlib.Core.List.{List, [], _++_}
+use Prim.Native.Nat.{ℕ, _+_, _≤_, _<_}
 use native.Mathlib.Omega.{arith}
 use borrow.Author.Tests.{leb-true, leb-false, le-leb}
 use lib.Dec.{leb, ltb}
 use lib.ListN.{length, take, set, length-take}
 use Rattle.declare.specs.declared.Event.{Event}
 use Rattle.declare.specs.declared.Rule.{Rule}
-use Rattle.declare.specs.declared.Table.{Table}
 use Rattle.declare.specs.declared.Standing.{Standing}
 use Rattle.declare.specs.declared.Standing.the-variants.{Idle, Open, Fulfilled, Violated}
 use Rattle.declare.specs.Lists.{all}
@@ -20,9 +19,9 @@ use Rattle.declare.specs.Rules.{validRule}
 use Rattle.declare.specs.Suits.{activationAt}
 use Rattle.declare.specs.Standings.{isIdle, isFulfilled, isViolated, isDecided}
 use Rattle.declare.specs.Verdicts.{verdict}
-use Rattle.declare.specs.Continuations.{horizon, continuation}
+use Rattle.declare.specs.Continuations.{horizon}
 use Rattle.declare.specs.Reachability.{standing}
-use Rattle.declare.specs.Exactness.{InEvery, InSome, Exact}
+use Rattle.declare.specs.Exactness.{InEvery, Exact}
 use Rattle.declare.proofs.Booleans.{both, and₃}
 use Rattle.declare.proofs.Extension.{activation-same}
 use Rattle.declare.proofs.Exactness.{none-added, exactness, idle-elsewhere}

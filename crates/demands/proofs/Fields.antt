@@ -1,32 +1,30 @@
 -- The causes of a field, and what its reader makes of them: each check of the reader is the cause of the same place.
 use mathlib.Core.Path.{_≡_, refl, sym, ap, _∙_}
 use mathlib.Core.Bool.{Bool, true, false, not, cond, _&&_, _||_, and-false, or-false, false≢true}
-use mathlib.Core.List.{List, [], _∷_, _++_, map, map-append, append-assoc}
-use Prim.Native.Nat.{ℕ, zero, suc, _+_, _-_}
+use mathlib.Core.List.{List, [], _∷_, _++_, map, map-append}
+use Prim.Native.Nat.{ℕ, _+_, _-_}
 use native.Mathlib.Omega.{arith}
-use lib.Dec.{leb, ltb, eqb}
+use lib.Dec.{leb, eqb}
 use lib.IntN.{ℤ, pos, negsuc}
 use lib.Signed.{leZ}
-use lib.ListN.{length, getD, drop}
+use lib.ListN.{getD, drop}
 use lib.Seq.{getD-drop, drop-drop}
 use borrow.Author.Tests.{eqb-true, eqb-false, eq-eqb, ne-eqb}
 use Rattle.declare.specs.declared.Reading.the-variants.{Blank}
-use Rattle.declare.specs.declared.Event.{Event}
 use Rattle.declare.specs.declared.End.{End}
 use Rattle.declare.specs.declared.End.the-variants.{Never, At}
-use Rattle.declare.specs.declared.Rule.{Rule}
 use Rattle.declare.specs.declared.Operator.the-variants.{Equal, NotEqual, Less, AtMost, Greater, AtLeast}
 use Rattle.declare.specs.declared.Reference.the-variants.{Constant, Activation}
 use Rattle.declare.specs.declared.Comparison.{Comparison}
 use Rattle.declare.specs.declared.Operand.the-variants.{Exact}
 use Rattle.declare.specs.declared.Refusal.{Refusal}
-use Rattle.declare.specs.declared.Refusal.the-variants.{FieldCount, NumberForm, OutOfRange, ComparisonForm, ReadingTwice, EmptyWindow, TimeFalls, TooMany}
-use Rattle.declare.specs.Lists.{all, any}
+use Rattle.declare.specs.declared.Refusal.the-variants.{NumberForm, OutOfRange, ComparisonForm, ReadingTwice, EmptyWindow}
+use Rattle.declare.specs.Lists.{any}
 use Rattle.declare.specs.Rules.{noCondition}
-use Rattle.declare.specs.Events.{least, greatest, inRange, lastTime}
-use Rattle.declare.specs.Refusals.{number-and-line, returned, hasLine, numberOf}
-use Rattle.run.specs.Replies.{Reply, accepted, refused}
-use Rattle.run.proofs.Lists.{leb-not, ltb-not}
+use Rattle.declare.specs.Events.{least, greatest, inRange}
+use Rattle.declare.specs.Refusals.{returned, hasLine, numberOf}
+use Rattle.run.specs.Replies.{accepted, refused}
+use Rattle.run.proofs.Lists.{ltb-not}
 use Rattle.number.specs.declared.Fault.the-variants.{Form, Range}
 use Rattle.number.specs.declared.NaturalAnswer.the-variants.{Natural, NoNatural}
 use Rattle.number.specs.declared.IntegerAnswer.{IntegerAnswer}
@@ -39,11 +37,9 @@ use Rattle.line.proofs.Answers.{no-of, of-of, through, required}
 use Rattle.rule_text.specs.Comparisons.{readingDigit, digitOf, operatorOf, kNumber, kAnswer, kField, constantField, activationField, referenceField, comparisonField}
 use Rattle.rule_text.specs.Conditions.{comma, tested, comparisonsAfter, conditionOf, comparisonsField, conditionField}
 use Rattle.rule_text.proofs.Comparisons.{digit-low}
-use Rattle.rule_text.specs.Rules.{endField, isAbove, ruleOf, inTable, ruleAfter}
-use Rattle.cycle_text.proofs.RoundTrips.{event-read}
-use Rattle.cycle_text.specs.Cycle.{eventOf, inOrder as eventInOrder, eventAfter}
+use Rattle.rule_text.specs.Rules.{endField, isAbove}
 use Rattle.demands.specs.Causes.{Cause, cause}
-use Rattle.demands.specs.LineCauses.{inTurn, numberCauses, unlessDash, readingCauses, isOperator, activationForm, referenceForm, constantIn, comparisonForm, comparisonCauses, conditionCauses, eventCauses, ruleCauses}
+use Rattle.demands.specs.LineCauses.{numberCauses, unlessDash, readingCauses, isOperator, activationForm, referenceForm, constantIn, comparisonForm, comparisonCauses, conditionCauses}
 use Rattle.demands.proofs.Chains.{Has, lineReply, inOrder, has-none, has-one, has-unless, has-then}
 
 -- no number begins with `@`

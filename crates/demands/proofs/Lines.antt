@@ -13,7 +13,7 @@ use Rattle.declare.specs.declared.Refusal.the-variants.{FieldCount, EmptyWindow
 use Rattle.declare.specs.Lists.{all, any}
 use Rattle.declare.specs.Events.{lastTime}
 use Rattle.declare.specs.Refusals.{number-and-line, returned, hasLine, numberOf}
-use Rattle.declare.proofs.Booleans.{and-left, and-right, all-append}
+use Rattle.declare.proofs.Booleans.{all-append}
 use Rattle.run.proofs.Lists.{leb-not, ltb-not}
 use Rattle.number.specs.Number.{dash, valueOf}
 use Rattle.line.specs.Fields.{split}
@@ -22,7 +22,7 @@ use Rattle.line.specs.Values.{numberField, readingField}
 use Rattle.rule_text.specs.Conditions.{comma, conditionField}
 use Rattle.rule_text.specs.Rules.{endField, isAbove, ruleOf, inTable, ruleAfter}
 use Rattle.cycle_text.specs.Cycle.{eventOf, inOrder as placed, eventAfter}
-use Rattle.cycle_text.proofs.RoundTrips.{EventRead, event-read}
+use Rattle.cycle_text.proofs.RoundTrips.{event-read}
 use Rattle.demands.specs.Causes.{Cause, cause}
 use Rattle.demands.specs.LineCauses.{inTurn, numberCauses, unlessDash, readingCauses, comparisonCauses, conditionCauses, eventFieldCauses, eventPlaceCauses, eventCauses, ruleFieldCauses, rulePlaceCauses, ruleCauses}
 use Rattle.demands.proofs.Chains.{Has, inOrder, has-none, has-one, has-unless, has-then}

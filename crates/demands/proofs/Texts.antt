@@ -1,19 +1,19 @@
 -- A reader of texts, for every kind of record: by induction over the lines, the reader stops at the first line that has a cause, and at its
 -- first. `recordOf` is what the reader makes of a line, and its answer has the causes `causesOf`.
 use mathlib.Core.Path.{_≡_, refl, sym, ap, subst, _∙_}
-use mathlib.Core.Logic.{_↔_, _⊎_, inl, inr}
-use mathlib.Core.Bool.{Bool, true, false, not, cond, _&&_, true≢false, false≢true}
+use mathlib.Core.Logic.{_↔_, inl, inr}
+use mathlib.Core.Bool.{Bool, true, false, cond, true≢false, false≢true}
 use mathlib.Core.List.{List, [], _∷_, _++_, nil≢cons}
-use Prim.Native.Nat.{ℕ, zero, suc, _+_}
+use Prim.Native.Nat.{ℕ, _+_}
 use native.Mathlib.Omega.{arith}
 use lib.Dec.{eqb}
 use lib.ListN.{length, length-append}
 use Rattle.declare.specs.declared.Refusal.{Refusal}
 use Rattle.declare.specs.declared.Refusal.the-variants.{NoLineEnd}
 use Rattle.declare.specs.Lists.{all, any}
-use Rattle.declare.specs.Refusals.{number, number-and-line, Returned, returned, hasLine, numberOf}
-use Rattle.declare.proofs.Booleans.{and-left, and-right, and₂, both}
-use Rattle.run.specs.Replies.{Reply, refused}
+use Rattle.declare.specs.Refusals.{number, number-and-line, returned, hasLine, numberOf}
+use Rattle.declare.proofs.Booleans.{and-left, and-right, both}
+use Rattle.run.specs.Replies.{refused}
 use Rattle.number.specs.Number.{none}
 use Rattle.line.specs.Fields.{LF, tab, onto, split}
 use Rattle.line.specs.Answers.{Answer, Of, No}
@@ -21,8 +21,8 @@ use Rattle.line.specs.Texts.{Records, All, Stop, lineAfter, continued, linesOf 
 use Rattle.line.proofs.Joined.{lacks, split-before}
 use Rattle.line.proofs.Texts.{stop-all, all-all}
 use Rattle.demands.specs.Causes.{Cause, First, noneHolds}
-use Rattle.demands.specs.Texts.{Line, linesIn, linesOf, bytesOf, lineCauses, Reached, RefusedAt, NoCause, Reads}
-use Rattle.demands.proofs.Chains.{Has, lineReply, inOrder, to-first, from-first, to-none, from-none, differ, same}
+use Rattle.demands.specs.Texts.{Line, linesIn, linesOf, bytesOf, lineCauses, RefusedAt, NoCause, Reads}
+use Rattle.demands.proofs.Chains.{Has, lineReply, to-first, from-first, to-none, from-none, differ, same}
 
 -- ---- lines and the parts of a text
 

@@ -1,6 +1,6 @@
 -- The logic of document 001, section 3.2, as far as its Table 2 goes: formulas, and Definition 3 over a list of events.
 use mathlib.Core.Path.{_≡_}
-use mathlib.Core.Bool.{Bool, true, _&&_}
+use mathlib.Core.Bool.{true, _&&_}
 use mathlib.Core.List.{List}
 use Prim.Native.Nat.{ℕ, _+_, _-_, _≤_, _<_}
 use lib.Dec.{eqb}
