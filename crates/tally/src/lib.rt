@@ -82,10 +82,11 @@ fn with_totals(tally: Tally, totals: Totals) -> Sum
     }
 }
 
-// What a tally takes from a run: the totals of one rule, if nothing refuses them.
+// What a tally takes from a run: the totals of one rule, if nothing refuses them. The fields are
+// private, so that only counted_of makes one.
 pub struct Counted {
-    pub answer: Answer,
-    pub totals: Totals,
+    answer: Answer,
+    totals: Totals,
 }
 
 fn not_counted(answer: Answer) -> Counted
