@@ -1,5 +1,5 @@
 -- What the code counts and sums is what document 01 fixes: by the totals' reply, which has the refusals 11 and 10.
-use mathlib.Core.Path.{_≡_, refl, sym, _∙_, ap, subst}
+use mathlib.Core.Path.{_≡_, refl, sym, _∙_, ap}
 use mathlib.Core.Bool.{Bool, true, false, not, cond, true≢false}
 use Prim.Native.Nat.{ℕ, _+_, _≤_}
 use borrow.Author.Tests.{leb-true}
@@ -19,11 +19,11 @@ use Rattle.judge.specs.Cells.{standingIn}
 use Rattle.run.specs.Queries.{oneOf, totalsBy, totalsOf}
 use Rattle.tally.specs.declared.Tally.{Tally}
 use Rattle.tally.specs.declared.Sum.{Sum}
+use Rattle.tally.specs.declared.CountedAnswer.the-variants.{Are as Brings}
 use Rattle.tally.specs.declared.Counted.{Counted}
 use Rattle.tally.specs.declared.Answer.{Answer}
-use Rattle.tally.specs.declared.Answer.the-variants.{Absorbed}
-use Rattle.tally.specs.Tally.{fits, countsOf, withCounts, answerReply, countsReply, tallyAfter, totalsAfter, Counts, Absorbs}
-use Rattle.tally.specs.Sums.{summed, noneCounted, answerFor, countedBy}
+use Rattle.tally.specs.Tally.{fits, countsOf, withCounts, answerReply, countsReply, tallyAfter, Counts, Absorbs}
+use Rattle.tally.specs.Sums.{summed, answerFor, countedBy}
 
 -- the four sums stay in range
 pub record Room (t : Tally) (c : Totals) : Type 0 where
@@ -64,13 +64,13 @@ number-returned cause = go (hasLine cause)
     go true = unfold numberIn in refl
     go false = unfold numberIn in refl
 
-refused-invalid : (cause : Refusal) → refusedFor {A = Totals} cause ≡ refused (number 11) → countsReply (noneCounted (answerFor cause)) ≡ refused (number 11)
-unfolding countsReply answerReply noneCounted answerFor numberOf numberBy numberIn
-refused-invalid cause e = ap (λ (q : Refusal). countsReply (noneCounted (answerFor q))) (number-injective cause NotValid (sym (number-returned cause) ∙ ap numberBy e))
+refused-invalid : (cause : Refusal) → refusedFor {A = Totals} cause ≡ refused (number 11) → countsReply (answerFor cause) ≡ refused (number 11)
+unfolding countsReply answerFor numberOf numberBy numberIn
+refused-invalid cause e = ap (λ (q : Refusal). countsReply (answerFor q)) (number-injective cause NotValid (sym (number-returned cause) ∙ ap numberBy e))
 
-refused-missing : (cause : Refusal) → refusedFor {A = Totals} cause ≡ refused (number 10) → countsReply (noneCounted (answerFor cause)) ≡ refused (number 10)
-unfolding countsReply answerReply noneCounted answerFor numberOf numberBy numberIn
-refused-missing cause e = ap (λ (q : Refusal). countsReply (noneCounted (answerFor q))) (number-injective cause NoSuchRule (sym (number-returned cause) ∙ ap numberBy e))
+refused-missing : (cause : Refusal) → refusedFor {A = Totals} cause ≡ refused (number 10) → countsReply (answerFor cause) ≡ refused (number 10)
+unfolding countsReply answerFor numberOf numberBy numberIn
+refused-missing cause e = ap (λ (q : Refusal). countsReply (answerFor q)) (number-injective cause NoSuchRule (sym (number-returned cause) ∙ ap numberBy e))
 
 -- ---- what a rule of a run brings
 
@@ -88,14 +88,14 @@ by-totals r rule = go (validRun r) refl (oneOf (r .table .count) rule) refl
     go true e false f = rw (e, f)
     go true e true f = rw (e, f)
 
-of-totals : (closed : Bool) (c : Totals) → (countsReply (countedBy closed (Are c)) ≡ byTotals closed (accepted c)) × (countedBy closed (Are c) .totals ≡ totalsAfter (byTotals closed (accepted c)))
-unfolding countsReply answerReply countedBy noneCounted byTotals totalsAfter
-of-totals false c = (refl, refl)
-of-totals true c = (refl, refl)
+of-totals : (closed : Bool) (c : Totals) → countsReply (countedBy closed (Are c)) ≡ byTotals closed (accepted c)
+unfolding countsReply countedBy byTotals
+of-totals false c = refl
+of-totals true c = refl
 
 -- a refusal of the totals is 11 or 10
-of-refusal : (closed : Bool) (r : Run) (rule : ℕ) (cause : Refusal) → refusedFor cause ≡ totalsOf r rule → (countsReply (noneCounted (answerFor cause)) ≡ byTotals closed (totalsOf r rule)) × (noneCounted (answerFor cause) .totals ≡ totalsAfter (byTotals closed (totalsOf r rule)))
-unfolding totalsOf isRefused noneCounted byTotals totalsAfter
+of-refusal : (closed : Bool) (r : Run) (rule : ℕ) (cause : Refusal) → refusedFor cause ≡ totalsOf r rule → countsReply (answerFor cause) ≡ byTotals closed (totalsOf r rule)
+unfolding totalsOf isRefused byTotals
 of-refusal closed r rule cause e = go (validRun r) (oneOf (r .table .count) rule) e
   where
     counts : Totals
@@ -107,43 +107,34 @@ of-refusal closed r rule cause e = go (validRun r) (oneOf (r .table .count) rule
     differs : refusedFor cause ≡ accepted counts → ⊥
     differs x = unfold refusedFor in true≢false (ap isRefused x)
 
-    go : (v o : Bool) → refusedFor cause ≡ totals v o → (countsReply (noneCounted (answerFor cause)) ≡ byTotals closed (totals v o)) × (noneCounted (answerFor cause) .totals ≡ totalsAfter (byTotals closed (totals v o)))
-    go false o q = (refused-invalid cause q, refl)
-    go true false q = (refused-missing cause q, refl)
+    go : (v o : Bool) → refusedFor cause ≡ totals v o → countsReply (answerFor cause) ≡ byTotals closed (totals v o)
+    go false o q = refused-invalid cause q
+    go true false q = refused-missing cause q
     go true true q = absurd (differs q)
 
-says : (r : Run) (rule : ℕ) (a : TotalsAnswer) → totalsReply a ≡ totalsOf r rule → (countsReply (countedBy (r .closed) a) ≡ byTotals (r .closed) (totalsOf r rule)) × (countedBy (r .closed) a .totals ≡ totalsAfter (byTotals (r .closed) (totalsOf r rule)))
+says : (r : Run) (rule : ℕ) (a : TotalsAnswer) → totalsReply a ≡ totalsOf r rule → countsReply (countedBy (r .closed) a) ≡ byTotals (r .closed) (totalsOf r rule)
 unfolding totalsReply countedBy
-says r rule (Are c) e =
-    subst (λ (x : Reply Totals). (countsReply (countedBy (r .closed) (Are c)) ≡ byTotals (r .closed) x) × (countedBy (r .closed) (Are c) .totals ≡ totalsAfter (byTotals (r .closed) x))) e
-    (of-totals (r .closed) c)
+says r rule (Are c) e = of-totals (r .closed) c ∙ ap (byTotals (r .closed)) e
 says r rule (NoTotals cause) e = of-refusal (r .closed) r rule cause e
 
-pub counts : (r : Run) (rule : ℕ) (a : TotalsAnswer) (c : Counted) → totalsReply a ≡ totalsOf r rule → c ≡ countedBy (r .closed) a → Counts r rule c
-counts r rule a c e q =
-    let p = says r rule a e in
-    let same : byTotals (r .closed) (totalsOf r rule) ≡ countsOf r rule = sym (by-totals r rule) in
-    record {
-      replies = ap countsReply q ∙ p .0 ∙ same;
-      totals = ap (λ (d : Counted). d .totals) q ∙ p .1 ∙ ap totalsAfter same;
-    }
+pub counts : (r : Run) (rule : ℕ) (a : TotalsAnswer) (c : Counted) → totalsReply a ≡ totalsOf r rule → c .answer ≡ countedBy (r .closed) a → Counts r rule c
+counts r rule a c e q = record { replies = ap countsReply q ∙ says r rule a e ∙ sym (by-totals r rule) }
 
 -- ---- what the tally becomes
 
-pub absorbs-totals : (t : Tally) (c : Counted) (s : Sum) → c .answer ≡ Absorbed → s ≡ summed t (c .totals) → Absorbs t c (s .tally) (s .answer)
+pub absorbs-totals : (t : Tally) (c : Counted) (totals : Totals) (s : Sum) → c .answer ≡ Brings totals → s ≡ summed t totals → Absorbs t c (s .tally) (s .answer)
 unfolding countsReply answerReply withCounts summed tallyAfter
-absorbs-totals t c s a q = go (fits t (c .totals)) refl
+absorbs-totals t c totals s a q = go (fits t totals) refl
   where
-    go : (f : Bool) → fits t (c .totals) ≡ f → Absorbs t c (s .tally) (s .answer)
+    go : (f : Bool) → fits t totals ≡ f → Absorbs t c (s .tally) (s .answer)
     go true e = record { replies = rw (q, a, e); leaves = rw (q, a, e) }
     go false e = record { replies = rw (q, a, e); leaves = rw (q, a, e) }
 
 -- a refusal is passed on
-pub absorbs-none : (t : Tally) (c : Counted) (a : Answer) (n : Returned) → answerReply t a ≡ refused n → answerReply (c .totals) a ≡ refused n → c .answer ≡ a → Absorbs t c t a
-unfolding countsReply withCounts tallyAfter
-absorbs-none t c a n of-tally of-counted e =
-    let reply : answerReply (c .totals) (c .answer) ≡ refused n = ap (answerReply (c .totals)) e ∙ of-counted in
+pub absorbs-none : (t : Tally) (c : Counted) (a : Answer) (n : Returned) → answerReply t a ≡ refused n → countsReply (c .answer) ≡ refused n → Absorbs t c t a
+unfolding withCounts tallyAfter
+absorbs-none t c a n answers brings =
     record {
-      replies = of-tally ∙ sym (ap (withCounts t) reply);
-      leaves = sym (ap (λ (x : Reply Totals). tallyAfter t (withCounts t x)) reply);
+      replies = answers ∙ sym (ap (withCounts t) brings);
+      leaves = sym (ap (λ (x : Reply Totals). tallyAfter t (withCounts t x)) brings);
     }

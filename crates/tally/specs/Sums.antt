@@ -7,20 +7,17 @@ use Rattle.run.specs.declared.TotalsAnswer.{TotalsAnswer}
 use Rattle.run.specs.declared.TotalsAnswer.the-variants.{Are, Refused as NoTotals}
 use Rattle.tally.specs.declared.Tally.{Tally}
 use Rattle.tally.specs.declared.Sum.{Sum}
-use Rattle.tally.specs.declared.Counted.{Counted}
-use Rattle.tally.specs.declared.Answer.{Answer}
-use Rattle.tally.specs.declared.Answer.the-variants.{Absorbed, InvalidRecord, NotFound, WrongPhase, Overflow}
-use Rattle.tally.specs.Tally.{fits, added, zero}
+use Rattle.tally.specs.declared.CountedAnswer.{CountedAnswer}
+use Rattle.tally.specs.declared.CountedAnswer.the-variants.{Are as Brings, InvalidRecord, NotFound, WrongPhase}
+use Rattle.tally.specs.declared.Answer.the-variants.{Absorbed, Overflow}
+use Rattle.tally.specs.Tally.{fits, added}
 
 unfoldable pub summed : Tally → Totals → Sum
 summed t c =
     cond (fits t c) (record { tally = added t c; answer = Absorbed }) (record { tally = t; answer = Overflow })
 
-unfoldable pub noneCounted : Answer → Counted
-noneCounted a = record { answer = a; totals = zero }
-
 -- the totals refuse with 11 or 10
-unfoldable pub answerFor : Refusal → Answer
+unfoldable pub answerFor : Refusal → CountedAnswer
 answerFor FieldCount = InvalidRecord
 answerFor NumberForm = InvalidRecord
 answerFor OutOfRange = InvalidRecord
@@ -36,6 +33,6 @@ answerFor NoLineEnd = InvalidRecord
 answerFor NoFile = InvalidRecord
 answerFor TallyOverflow = InvalidRecord
 
-unfoldable pub countedBy : Bool → TotalsAnswer → Counted
-countedBy closed (Are c) = cond closed (record { answer = Absorbed; totals = c }) (noneCounted WrongPhase)
-countedBy closed (NoTotals cause) = noneCounted (answerFor cause)
+unfoldable pub countedBy : Bool → TotalsAnswer → CountedAnswer
+countedBy closed (Are c) = cond closed (Brings c) WrongPhase
+countedBy closed (NoTotals cause) = answerFor cause

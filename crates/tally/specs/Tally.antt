@@ -12,6 +12,8 @@ use Rattle.run.specs.Replies.{Reply, accepted, refused}
 use Rattle.run.specs.Records.{validRun}
 use Rattle.run.specs.Queries.{oneOf, totalsBy}
 use Rattle.tally.specs.declared.Tally.{Tally}
+use Rattle.tally.specs.declared.CountedAnswer.{CountedAnswer}
+use Rattle.tally.specs.declared.CountedAnswer.the-variants as counted
 use Rattle.tally.specs.declared.Counted.{Counted}
 use Rattle.tally.specs.declared.Answer.{Answer}
 use Rattle.tally.specs.declared.Answer.the-variants.{Absorbed, InvalidRecord, NotFound, WrongPhase, Overflow}
@@ -51,36 +53,30 @@ absorbOf r rule t = withCounts t (countsOf r rule)
 
 -- ---- the answers of the code, in document 01's numbers
 
--- a call that answers so has this value if it is done
-unfoldable pub answerReply : {A : Type 0} → A → Answer → Reply A
-answerReply a Absorbed = accepted a
-answerReply a InvalidRecord = refused (number 11)
-answerReply a NotFound = refused (number 10)
-answerReply a WrongPhase = refused (number 9)
-answerReply a Overflow = refused (number 14)
+-- a call that answers so leaves this tally if it is done
+unfoldable pub answerReply : Tally → Answer → Reply Tally
+answerReply t Absorbed = accepted t
+answerReply t InvalidRecord = refused (number 11)
+answerReply t NotFound = refused (number 10)
+answerReply t WrongPhase = refused (number 9)
+answerReply t Overflow = refused (number 14)
 
-unfoldable pub countsReply : Counted → Reply Totals
-countsReply c = answerReply (c .totals) (c .answer)
+unfoldable pub countsReply : CountedAnswer → Reply Totals
+countsReply (counted.Are c) = accepted c
+countsReply counted.InvalidRecord = refused (number 11)
+countsReply counted.NotFound = refused (number 10)
+countsReply counted.WrongPhase = refused (number 9)
 
 -- "a refusal alters neither run nor tally"
 unfoldable pub tallyAfter : Tally → Reply Tally → Tally
 tallyAfter t (accepted next) = next
 tallyAfter t (refused n) = t
 
--- no totals
-abbrev pub zero : Totals
-zero = record { activations = 0; fulfilled = 0; violated = 0; «open» = 0 }
-
-unfoldable pub totalsAfter : Reply Totals → Totals
-totalsAfter (accepted c) = c
-totalsAfter (refused n) = zero
-
--- what a rule of a run brings; beside a refusal no totals
+-- what a rule of a run brings
 pub record Counts (r : Run) (rule : ℕ) (c : Counted) : Type 0 where
-  pub replies : countsReply c ≡ countsOf r rule
-  pub totals : c .totals ≡ totalsAfter (countsOf r rule)
+  pub replies : countsReply (c .answer) ≡ countsOf r rule
 
 -- absorbing it leads from the tally `before` to the tally `after`, with this answer
 pub record Absorbs (before : Tally) (c : Counted) (after : Tally) (answer : Answer) : Type 0 where
-  pub replies : answerReply after answer ≡ withCounts before (countsReply c)
-  pub leaves : after ≡ tallyAfter before (withCounts before (countsReply c))
+  pub replies : answerReply after answer ≡ withCounts before (countsReply (c .answer))
+  pub leaves : after ≡ tallyAfter before (withCounts before (countsReply (c .answer)))

@@ -3,7 +3,7 @@ ghost use mathlib.Core.Path.{_≡_};
 ghost use Prim.Native.Nat.{_+_};
 ghost use lib.Dec.{leb};
 ghost use Rattle.tally.specs.Tally.{fits, Counts, Absorbs};
-ghost use Rattle.tally.specs.Sums.{summed, noneCounted, answerFor, countedBy};
+ghost use Rattle.tally.specs.Sums.{summed, answerFor, countedBy};
 use declare::Refusal;
 use run::Run;
 use run::Totals;
@@ -82,72 +82,64 @@ fn with_totals(tally: Tally, totals: Totals) -> Sum
     }
 }
 
-// What a tally takes from a run: the totals of one rule, if nothing refuses them. The fields are
-// private, so that only counted_of makes one.
-pub struct Counted {
-    answer: Answer,
-    totals: Totals,
+// The totals of a rule of a closed run, or why there are none: 14 is no such cause. Public, so that
+// a struct of another crate that holds a Counted is covered.
+pub enum CountedAnswer {
+    Are(Totals),
+    InvalidRecord,
+    NotFound,
+    WrongPhase,
 }
 
-fn not_counted(answer: Answer) -> Counted
-    ensures { λ r. ⌜ r ≡ noneCounted answer ⌝ }
-{
-    Counted {
-        answer: answer,
-        totals: Totals {
-            activations: 0,
-            fulfilled: 0,
-            violated: 0,
-            open: 0,
-        },
-    }
+// What a tally takes from a run. The field is private, so that only counted_of makes one.
+pub struct Counted {
+    answer: CountedAnswer,
 }
 
 // The totals refuse an invalid record, or a rule that is not there.
-fn answer_for(cause: Refusal) -> Answer
+fn answer_for(cause: Refusal) -> CountedAnswer
     ensures { λ r. ⌜ r ≡ answerFor cause ⌝ }
 {
     match cause {
-        Refusal::FieldCount => Answer::InvalidRecord,
-        Refusal::NumberForm => Answer::InvalidRecord,
-        Refusal::OutOfRange => Answer::InvalidRecord,
-        Refusal::ComparisonForm => Answer::InvalidRecord,
-        Refusal::ReadingTwice => Answer::InvalidRecord,
-        Refusal::EmptyWindow => Answer::InvalidRecord,
-        Refusal::TimeFalls => Answer::InvalidRecord,
-        Refusal::TooMany => Answer::InvalidRecord,
-        Refusal::WrongPhase => Answer::InvalidRecord,
-        Refusal::NotFound => Answer::NotFound,
-        Refusal::InvalidRecord => Answer::InvalidRecord,
-        Refusal::NoLineEnd => Answer::InvalidRecord,
-        Refusal::NoFile => Answer::InvalidRecord,
-        Refusal::TallyOverflow => Answer::InvalidRecord,
+        Refusal::FieldCount => CountedAnswer::InvalidRecord,
+        Refusal::NumberForm => CountedAnswer::InvalidRecord,
+        Refusal::OutOfRange => CountedAnswer::InvalidRecord,
+        Refusal::ComparisonForm => CountedAnswer::InvalidRecord,
+        Refusal::ReadingTwice => CountedAnswer::InvalidRecord,
+        Refusal::EmptyWindow => CountedAnswer::InvalidRecord,
+        Refusal::TimeFalls => CountedAnswer::InvalidRecord,
+        Refusal::TooMany => CountedAnswer::InvalidRecord,
+        Refusal::WrongPhase => CountedAnswer::InvalidRecord,
+        Refusal::NotFound => CountedAnswer::NotFound,
+        Refusal::InvalidRecord => CountedAnswer::InvalidRecord,
+        Refusal::NoLineEnd => CountedAnswer::InvalidRecord,
+        Refusal::NoFile => CountedAnswer::InvalidRecord,
+        Refusal::TallyOverflow => CountedAnswer::InvalidRecord,
     }
 }
 
-fn counted_by(closed: bool, answer: TotalsAnswer) -> Counted
+fn counted_by(closed: bool, answer: TotalsAnswer) -> CountedAnswer
     ensures { λ r. ⌜ r ≡ countedBy closed answer ⌝ }
 {
     match answer {
         TotalsAnswer::Are(totals) => {
             if !closed {
-                return not_counted(Answer::WrongPhase);
+                return CountedAnswer::WrongPhase;
             }
-            Counted {
-                answer: Answer::Absorbed,
-                totals: totals,
-            }
+            CountedAnswer::Are(totals)
         },
-        TotalsAnswer::Refused(cause) => not_counted(answer_for(cause)),
+        TotalsAnswer::Refused(cause) => answer_for(cause),
     }
 }
 
-// The totals of a rule of a closed run. Refused with 11, 10 or 9; then no totals.
+// The totals of a rule of a closed run. Refused with 11, 10 or 9.
 pub fn counted_of(run: Run, rule: usize) -> Counted
     ensures { λ r. ⌜ Counts run rule r ⌝ }
 {
     let answer = run.totals(rule);
-    counted_by(run.closed, answer)
+    Counted {
+        answer: counted_by(run.closed, answer),
+    }
 }
 
 // The tally with the totals of one cycle more, by value. Refused as they are, or with 14, the tally then as it was.
@@ -156,22 +148,18 @@ pub fn absorbed(tally: Tally, counted: Counted) -> Sum
 {
     let answer = counted.answer;
     match answer {
-        Answer::Absorbed => with_totals(tally, counted.totals),
-        Answer::InvalidRecord => Sum {
+        CountedAnswer::Are(totals) => with_totals(tally, totals),
+        CountedAnswer::InvalidRecord => Sum {
             tally: tally,
             answer: Answer::InvalidRecord,
         },
-        Answer::NotFound => Sum {
+        CountedAnswer::NotFound => Sum {
             tally: tally,
             answer: Answer::NotFound,
         },
-        Answer::WrongPhase => Sum {
+        CountedAnswer::WrongPhase => Sum {
             tally: tally,
             answer: Answer::WrongPhase,
-        },
-        Answer::Overflow => Sum {
-            tally: tally,
-            answer: Answer::Overflow,
         },
     }
 }

@@ -9,11 +9,11 @@ use std::path::Path;
 use std::process::Command;
 
 const FORGER: &str = "use run::Totals;
-use tally::Answer;
 use tally::Counted;
+use tally::CountedAnswer;
 
 pub fn forged(totals: Totals) -> Counted {
-    Counted { answer: Answer::Overflow, totals: totals }
+    Counted { answer: CountedAnswer::Are(totals) }
 }
 ";
 

@@ -8,12 +8,9 @@ use Rattle.tally.proofs.counted_by.Tie as tie
 enum-known-answer : tie.Need-enum-known-answer
 enum-known-answer c = search needs
 
-not-counted-requires : tie.Need-not-counted-requires
-not-counted-requires c κs = search needs
-
 returns : tie.Need-returns
 unfolding countedBy
-returns c = rw (c .before .before .before .answer .given .1, not-true (c .before .before .before .before .before .args .closed) (c .before .if1 .taken), c .not-counted .ensures)
+returns c = rw (c .before .before .answer .given .1, not-true (c .before .before .before .before .args .closed) (c .if1 .taken))
 
 enum-known-answer-2 : tie.Need-enum-known-answer-2
 enum-known-answer-2 c = search needs
@@ -21,26 +18,13 @@ enum-known-answer-2 c = search needs
 answer-for-requires : tie.Need-answer-for-requires
 answer-for-requires c κs = search needs
 
-not-counted-requires-2 : tie.Need-not-counted-requires-2
-not-counted-requires-2 c κs = search needs
-
 returns-2 : tie.Need-returns-2
 unfolding countedBy
 returns-2 c = rw (c .before .before .answer .given .1, not-false (c .before .before .before .before .args .closed) (c .if1 .left))
 
 returns-3 : tie.Need-returns-3
 unfolding countedBy
-returns-3 c = rw (c .before .before .before .answer2 .given .1, c .not-counted2 .ensures, c .before .answer-for .ensures)
+returns-3 c = rw (c .before .before .answer2 .given .1, c .answer-for .ensures)
 
 pub counted-by-spec : {M : Type 1} → statement M
-counted-by-spec =
-    tie.close
-    (tie.spec
-    enum-known-answer
-    not-counted-requires
-    returns
-    enum-known-answer-2
-    answer-for-requires
-    not-counted-requires-2
-    returns-2
-    returns-3)
+counted-by-spec = tie.close (tie.spec enum-known-answer returns enum-known-answer-2 answer-for-requires returns-2 returns-3)
