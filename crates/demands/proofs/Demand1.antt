@@ -22,8 +22,6 @@ use Rattle.tally.specs.declared.Tally.{Tally}
 use Rattle.tally.specs.declared.Counted.{Counted}
 use Rattle.tally.specs.declared.Answer.{Answer}
 use Rattle.tally.specs.Tally.{fits, added, countsOf, withCounts, absorbOf, answerReply, tallyAfter, Counts, Absorbs}
-use Rattle.demands.specs.Causes.{Cause}
-use Rattle.demands.specs.Demand1.{Refuses, startCauses, takeCauses, closeCauses, standingCauses, totalsCauses, absorbCauses, ReadsBoth, Demand1}
 use Rattle.line.specs.Texts.{Records, All, Stop}
 use Rattle.cycle_text.specs.Cycle.{eventAfter, cycleTextOf}
 use Rattle.rule_text.specs.Rules.{ruleAfter, rulesTextOf}
@@ -31,11 +29,13 @@ use Rattle.line.proofs.Texts.{stop-all}
 use Rattle.notebook.specs.declared.Text.{Text}
 use Rattle.notebook.specs.declared.Text.the-variants.{Rules, Cycle}
 use Rattle.notebook.specs.Notebook.{accepted as readAs, refused as notRead, notebookOf, finishedOf, readWith}
+use Rattle.demands.specs.Causes.{Cause}
 use Rattle.demands.specs.LineCauses.{eventCauses, ruleCauses}
 use Rattle.demands.specs.Texts.{Reads}
+use Rattle.demands.specs.Demand1.{Refuses, startCauses, takeCauses, closeCauses, standingCauses, totalsCauses, absorbCauses, ReadsBoth, Demand1}
+use Rattle.demands.proofs.Chains.{inOrder, to-first, from-first, to-none, from-none}
 use Rattle.demands.proofs.Texts.{reads}
 use Rattle.demands.proofs.Lines.{has-event, has-rule, eventNumbers, event-numbered, ruleNumbers, rule-numbered}
-use Rattle.demands.proofs.Chains.{inOrder, to-first, from-first, to-none, from-none}
 
 chain : {A : Type 0} (a : A) (causes : List Cause) → Refuses causes (inOrder 0 causes a)
 chain a causes =

@@ -21,22 +21,22 @@ use Rattle.declare.specs.Standings.{isIdle, isFulfilled, isViolated, isDecided}
 use Rattle.declare.specs.Verdicts.{verdict}
 use Rattle.declare.specs.Continuations.{horizon}
 use Rattle.declare.specs.Reachability.{standing}
+use Rattle.declare.specs.Steps.{Cycle, capacity, carried}
 use Rattle.declare.specs.Exactness.{InEvery, Exact}
 use Rattle.declare.proofs.Booleans.{both, and₃}
 use Rattle.declare.proofs.Extension.{activation-same}
 use Rattle.declare.proofs.Exactness.{none-added, exactness, idle-elsewhere}
+use Rattle.judge.specs.Cells.{standingIn, judged}
 use Rattle.run.specs.declared.Run.{Run}
 use Rattle.run.specs.Replies.{Reply, accepted, refusedFor, runAfter}
-use Rattle.run.specs.Queries.{oneOf, standingOf}
-use Rattle.judge.specs.Cells.{standingIn, judged}
 use Rattle.run.specs.Records.{eventsOf, ruleAt, validEvents, validRun, Sized}
 use Rattle.run.specs.Take.{appended, judgedRun, takeOf}
+use Rattle.run.specs.Queries.{oneOf, standingOf}
 use Rattle.run.proofs.Guards.{takeBy, standing-accepted, standing-missing}
 use Rattle.run.proofs.Bounds.{valid-parts}
 use Rattle.run.proofs.Places.{judged-standing, standings-each}
 use Rattle.run.proofs.Validity.{at-idle, take-valid}
 use Rattle.run.proofs.Takes.{rule-valid}
-use Rattle.declare.specs.Steps.{Cycle, capacity, carried}
 use Rattle.demands.specs.Demand2.{Within}
 use Rattle.demands.specs.Demand3.{Early, TakenFrom, EveryRecord}
 use Rattle.demands.proofs.Chains.{differ}

@@ -36,8 +36,8 @@ use Rattle.line.specs.Values.{faultNumber, naturalAnswer, numberField, integerA
 use Rattle.line.proofs.Answers.{no-of, of-of, through, required}
 use Rattle.rule_text.specs.Comparisons.{readingDigit, digitOf, operatorOf, kNumber, kAnswer, kField, constantField, activationField, referenceField, comparisonField}
 use Rattle.rule_text.specs.Conditions.{comma, tested, comparisonsAfter, conditionOf, comparisonsField, conditionField}
-use Rattle.rule_text.proofs.Comparisons.{digit-low}
 use Rattle.rule_text.specs.Rules.{endField, isAbove}
+use Rattle.rule_text.proofs.Comparisons.{digit-low}
 use Rattle.demands.specs.Causes.{Cause, cause}
 use Rattle.demands.specs.LineCauses.{numberCauses, unlessDash, readingCauses, isOperator, activationForm, referenceForm, constantIn, comparisonForm, comparisonCauses, conditionCauses}
 use Rattle.demands.proofs.Chains.{Has, lineReply, inOrder, has-none, has-one, has-unless, has-then}
