@@ -1,5 +1,6 @@
--- Causes looked for in order: the first that holds is told, and if none holds the answer is a value. By induction over the causes.
--- The answer of a line is such a chain, piece by piece: each check of a `do` block is one cause, or the causes of a field.
+-- Causes looked for in order: the first that holds is told, and if none holds the answer is a
+-- value. By induction over the causes. The answer of a line is such a chain, piece by piece: each
+-- check of a `do` block is one cause, or the causes of a field.
 use mathlib.Core.Path.{_≡_, refl, sym, ap, _∙_}
 use mathlib.Core.Logic.{_⊎_, inl, inr}
 use mathlib.Core.Bool.{Bool, true, false, not, cond, _&&_, false≢true}

@@ -1,4 +1,5 @@
--- Each call on records is a chain of causes. So is each line of a text (Lines), and a reader goes from line to line (Texts).
+-- Each call on records is a chain of causes. So is each line of a text (Lines), and a reader goes
+-- from line to line (Texts).
 use mathlib.Core.Path.{_≡_, refl, sym, ap, _∙_}
 use mathlib.Core.Logic.{_↔_}
 use mathlib.Core.Bool.{Bool, true, false, not, cond}

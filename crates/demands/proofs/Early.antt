@@ -1,5 +1,6 @@
--- Early verdicts in the answers' own words. The exactness of standings covers activations; of any other event every continuation leaves it
--- idle. After a take on any valid record a standing is carried over or judged from the events now in it.
+-- Early verdicts in the answers' own words. The exactness of standings covers activations; of any
+-- other event every continuation leaves it idle. After a take on any valid record a standing is
+-- carried over or judged from the events now in it.
 use mathlib.Core.Path.{_≡_, refl, sym, ap, subst, _∙_}
 use mathlib.Core.Logic.{_↔_}
 use mathlib.Core.Bool.{Bool, true, false, _&&_, true≢false, false≢true}

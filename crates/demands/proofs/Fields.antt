@@ -1,4 +1,5 @@
--- The causes of a field, and what its reader makes of them: each check of the reader is the cause of the same place.
+-- The causes of a field, and what its reader makes of them: each check of the reader is the cause
+-- of the same place.
 use mathlib.Core.Path.{_≡_, refl, sym, ap, _∙_}
 use mathlib.Core.Bool.{Bool, true, false, not, cond, _&&_, _||_, and-false, or-false, false≢true}
 use mathlib.Core.List.{List, [], _∷_, _++_, map, map-append}

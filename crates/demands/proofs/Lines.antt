@@ -1,4 +1,5 @@
--- The causes of a line are those of its fields, one after the other, and then those that look at the lines above.
+-- The causes of a line are those of its fields, one after the other, and then those that look at
+-- the lines above.
 use mathlib.Core.Path.{_≡_, refl, sym, ap, _∙_}
 use mathlib.Core.Bool.{Bool, true, false, not, cond}
 use mathlib.Core.List.{List, [], _∷_, _++_, append-assoc}

@@ -1,5 +1,6 @@
--- A reader of texts, for every kind of record: by induction over the lines, the reader stops at the first line that has a cause, and at its
--- first. `recordOf` is what the reader makes of a line, and its answer has the causes `causesOf`.
+-- A reader of texts, for every kind of record: by induction over the lines, the reader stops at the
+-- first line that has a cause, and at its first. `recordOf` is what the reader makes of a line, and
+-- its answer has the causes `causesOf`.
 use mathlib.Core.Path.{_≡_, refl, sym, ap, subst, _∙_}
 use mathlib.Core.Logic.{_↔_, inl, inr}
 use mathlib.Core.Bool.{Bool, true, false, cond, true≢false, false≢true}

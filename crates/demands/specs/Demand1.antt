@@ -1,7 +1,9 @@
--- Demand 1: "every call .. gets a result or one of the fourteen numbers", exactly as document 01's table and orders say.
+-- Demand 1: "every call .. gets a result or one of the fourteen numbers", exactly as document 01's
+-- table and orders say.
 --
--- Each call on records has a list of causes, in document 01's order. It is refused with the number of the first that holds, and accepted if
--- none holds. So has each line of a text (LineCauses); a reader goes from line to line (Texts); the notebook reads the rules first.
+-- Each call on records has a list of causes, in document 01's order. It is refused with the number
+-- of the first that holds, and accepted if none holds. So has each line of a text (LineCauses); a
+-- reader goes from line to line (Texts); the notebook reads the rules first.
 use mathlib.Core.Path.{_≡_}
 use mathlib.Core.Logic.{_↔_}
 use mathlib.Core.Bool.{true, not, _&&_}
@@ -83,7 +85,7 @@ absorbCauses r rule t =
     ∷ cause TallyOverflow (not (fits t (totalsBy (standingIn (r .cells) rule) (r .count))))
     ∷ []
 
--- "the notebook reading takes both texts, rules first": the cycle text is looked at if the rules are accepted
+-- "rules first": the notebook looks at the cycle text if the rules are accepted
 pub record ReadsBoth (rules cycle : List ℕ) : Type 0 where
   pub refuses-rules : (n line : ℕ) → (notebookOf rules cycle ≡ notRead Rules n line) ↔ (rulesTextOf rules ≡ Stop n line)
   pub refuses-cycle : (n line : ℕ)

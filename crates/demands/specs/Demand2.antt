@@ -1,5 +1,6 @@
--- Demand 2: "in a closed cycle" exactly the events that fit are activations, each "fulfilled when its template's published formula holds
--- there, otherwise violated, and the target named is the one document 01 picks". All of it of what the call standing answers.
+-- Demand 2: "in a closed cycle" exactly the events that fit are activations, each "fulfilled when
+-- its template's published formula holds there, otherwise violated, and the target named is the one
+-- document 01 picks". All of it of what the call standing answers.
 use mathlib.Core.Path.{_≡_}
 use mathlib.Core.Logic.{_↔_}
 use mathlib.Core.Bool.{true, false}
@@ -56,15 +57,15 @@ pub record Follows (rule : Rule) (es : List Event) (r : Run) (k i : ℕ) : Type 
   pub verdicts : standingOf r k i ≡ accepted (verdict rule es i)
   -- an event that does not fit stands idle, and no other does
   pub idle : (standingOf r k i ≡ accepted Idle) ↔ (activationAt rule es i ≡ false)
-  -- one that fits is an activation, and the formula decides, 3 and 6 as document 01 fixes them: the window from the activation, and
-  -- no activation of the rule on the way, tested of the event at hand
+  -- one that fits is an activation, and the formula decides; 3 and 6 as document 01 fixes them, with
+  -- the window from the activation, and the event at hand tested for "no activation of the rule"
   pub fixed : activationAt rule es i ≡ true → Decides r k i rule es (fixedOf rule)
-  -- Table 2 to the letter; 3 and 6 where the window is 0 to no end and there is no activation condition
+  -- Table 2 to the letter; 3 and 6 where the window is 0 to no end, without activation condition
   pub published : activationAt rule es i ≡ true
       → (rule .code ≡ 3 → Plain rule)
       → (rule .code ≡ 6 → Plain rule)
       → Decides r k i rule es (publishedOf rule)
-  -- "the target named is the one document 01 picks": the earliest eligible position, or 0 if there is none
+  -- "the target named is the one document 01 picks": the earliest eligible, or 0 if there is none
   pub names : activationAt rule es i ≡ true → (s : Standing) → standingOf r k i ≡ accepted s → Names rule es i (targetIn s)
 
 -- the closed run r of the rules t and the events es

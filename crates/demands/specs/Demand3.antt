@@ -34,7 +34,8 @@ use Rattle.demands.specs.Demand2.{Within, StandsFulfilled, StandsViolate
 
 -- ---- early verdicts
 
--- what the call standing answers for rule k at position i of the run r, and how all cycles that begin with its events es end there
+-- what the call standing answers for rule k at position i of the run r, and how all cycles that
+-- begin with its events es end there
 pub record Early (rule : Rule) (es : List Event) (r : Run) (k i : ℕ) : Type 0 where
   -- "fulfilled exactly when it is fulfilled in every continuation"
   pub fulfilled : StandsFulfilled r k i ↔ InEvery isFulfilled rule es (horizon es) i
@@ -52,8 +53,8 @@ pub record Early (rule : Rule) (es : List Event) (r : Run) (k i : ℕ) : Type 0 
 abbrev pub EarlyVerdicts : Table → List Event → Run → Type 0
 EarlyVerdicts t es r = (k i : ℕ) → Within t es k i → Early (ruleAt t k) es r k i
 
--- a record nobody grew, r, and the one after an accepted take, `next`: "decided standings at taken positions are carried over, all others
--- follow from the events now in the record"
+-- a record nobody grew, r, and the one after an accepted take, `next`: "decided standings at taken
+-- positions are carried over, all others follow from the events now in the record"
 pub record TakenFrom (r next : Run) (k i : ℕ) : Type 0 where
   pub carried : (s : Standing) → standingOf r k i ≡ accepted s → isDecided s ≡ true → standingOf next k i ≡ accepted s
   pub judged : ((s : Standing) → standingOf r k i ≡ accepted s → isDecided s ≡ false) → Early (ruleAt (next .table) k) (eventsOf next) next k i
@@ -66,7 +67,8 @@ EveryRecord =
 
 -- ---- the notebook
 
--- the table read from the text of t's rules: the same rules, with noComparison and noRule in the slots that are not in use
+-- the table read from the text of t's rules: the same rules, with noComparison and noRule in the
+-- slots that are not in use
 abbrev pub rewritten : Table → Table
 rewritten t = tableOf (map tidy (rulesOf t))
 
@@ -75,8 +77,8 @@ pub record Bytes (most : ℕ) (text : List ℕ) : Type 0 where
   pub bytes : all isByte text ≡ true
   pub few : length text ≤ most
 
--- "the notebook reading on the two texts whose lines are the table's rules and the taken events" gives the run r, and r answers as the
--- grown run does after close
+-- "the notebook reading on the two texts whose lines are the table's rules and the taken events"
+-- gives the run r, and r answers as the grown run does after close
 pub record ReadBack (t : Table) (offered : List Event) (r : Run) : Type 0 where
   -- both fit the 32768 bytes of a file of `report`
   pub rules-text : Bytes 2480 (rulesText (rulesOf t))
@@ -91,7 +93,7 @@ pub record ReadBack (t : Table) (offered : List Event) (r : Run) : Type 0 where
 
 -- the table t, with anything in its unused slots, and the takes `offered`
 pub record Demand3 (t : Table) (offered : List Event) : Type 0 where
-  -- the run has the table and exactly the taken events; each call on it, and after close, answers as they say
+  -- the run has the table and exactly the taken events; each call, and after close, answers so
   pub takes : Takes t offered
   pub early : EarlyVerdicts t (taken offered) (grown t offered)
   pub notebook : (r : Run) × ReadBack t offered r

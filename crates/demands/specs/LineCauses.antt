@@ -1,5 +1,6 @@
--- The causes for which a line of a text is refused, in document 01's order: "12, 1, then field by field 2 or 4, 3, 5 (in a condition
--- comparison by comparison), then 6 or 7, then 8". Each is a test of the line's own bytes and of the records above it.
+-- The causes for which a line of a text is refused, in document 01's order: "12, 1, then field by
+-- field 2 or 4, 3, 5 (in a condition comparison by comparison), then 6 or 7, then 8". Each is a
+-- test of the line's own bytes and of the records above it.
 use mathlib.Core.Bool.{Bool, true, false, not, cond, _&&_, _||_}
 use mathlib.Core.List.{List, [], _∷_, _++_}
 use Prim.Native.Nat.{ℕ}
@@ -24,7 +25,7 @@ inTurn (group ∷ later) = group ++ inTurn later
 
 -- ---- fields
 
--- an unsigned number from low to high: "field not of the number form" 2, "number outside its range" 3
+-- an unsigned number from low to high: not "of the number form" 2, "outside its range" 3
 unfoldable pub numberCauses : ℕ → ℕ → List ℕ → List Cause
 numberCauses low high field =
     cause NumberForm (not (naturalForm field))
@@ -100,7 +101,8 @@ eventPlaceCauses above time =
 unfoldable pub eventCauses : List Event → List (List ℕ) → List Cause
 eventCauses above fields = inTurn (eventFieldCauses fields ++ eventPlaceCauses above (valueOf (getD fields 0 [])))
 
--- "a rule line: code, activation activity, target activity, a, b, activation condition, correlation condition"; "b not above a" is 6
+-- "a rule line: code, activation activity, target activity, a, b, activation condition, correlation
+-- condition"; "b not above a" is 6
 abbrev pub ruleFieldCauses : List (List ℕ) → List (List Cause)
 ruleFieldCauses fields =
     (cause FieldCount (not (eqb (length fields) 7)) ∷ [])

@@ -1,6 +1,7 @@
 -- What a reader of a text answers: "lines are read downward, the first refusal ends it".
 --
--- `causesOf` stands for the causes of a line, given the records above it and its fields; `read` for the reader.
+-- `causesOf` stands for the causes of a line, given the records above it and its fields, and
+-- `read` for the reader.
 use mathlib.Core.Path.{_≡_}
 use mathlib.Core.Logic.{_↔_}
 use mathlib.Core.Bool.{Bool, true, false, not, cond}
@@ -22,7 +23,8 @@ pub record Line : Type 0 where
   pub bytes : List ℕ
   pub ended : Bool
 
--- of the parts between which LF stands each but the last is a line that LF ends; the last is empty, or a line that lacks LF
+-- of the parts between which LF stands each but the last is a line that LF ends; the last is empty,
+-- or a line that lacks LF
 unfoldable pub linesIn : List (List ℕ) → List Line
 linesIn [] = []
 linesIn (last ∷ []) = cond (none last) [] (record { bytes = last; ended = false } ∷ [])

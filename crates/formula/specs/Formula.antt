@@ -1,4 +1,5 @@
--- The logic of document 001, section 3.2, as far as its Table 2 goes: formulas, and Definition 3 over a list of events.
+-- The logic of document 001, section 3.2, as far as its Table 2 goes: formulas, and Definition 3
+-- over a list of events.
 use mathlib.Core.Path.{_≡_}
 use mathlib.Core.Bool.{true, _&&_}
 use mathlib.Core.List.{List}
@@ -20,9 +21,10 @@ always = record { from = 0; until = Never }
 pub data Formula : Type 0 where
   -- the event is an activation of the rule: A, and φ_a of the event's own readings
   Activation : Formula
-  -- A ∧ φ_a(x) to the letter: the event has the activation activity, and φ_a is asked of x, the activation judged
+  -- A ∧ φ_a(x) to the letter: the event has the activation activity, and φ_a is asked of x, the
+  -- activation judged
   BoundActivation : Formula
-  -- the event has the target activity and meets the correlation against the activation judged: B ∧ φ_c
+  -- B ∧ φ_c: the event has the target activity, and meets the correlation against the activation
   Target : Formula
   -- the event lies so far in time from the activation judged: φ_τ
   Within : Window → Formula
@@ -39,7 +41,8 @@ pub data Formula : Type 0 where
 unfoldable pub timeAt : List Event → ℕ → ℕ
 timeAt es i = eventAt es i .time
 
--- Definition 3, for a rule, a cycle, and the activation judged (the valuation of x), at a position from 1 to the number of events.
+-- Definition 3, for a rule, a cycle, and the activation judged (the valuation of x), at a position
+-- from 1 to the number of events.
 -- U's k is printed as k ∈ [j, i), which is empty; it is read as [i, j).
 unfoldable pub Holds : Rule → List Event → Event → Formula → ℕ → Type 0
 Holds r es a Activation i = isActivation r (eventAt es i) ≡ true
