@@ -1,0 +1,143 @@
+-- Document 01's sentences as statements about rules and positions, beside the definitions that
+-- compute. Proved as `words` in proofs/Words.
+use mathlib.Core.Path.{_≡_}
+use mathlib.Core.Logic.{_↔_, _⊎_}
+use mathlib.Core.Bool.{Bool, true, false}
+use mathlib.Core.List.{List}
+use Prim.Native.Nat.{ℕ, _+_, _≤_, _<_}
+use lib.ListN.{length}
+use Rattle.declare.specs.declared.Reading.the-variants.{Blank}
+use Rattle.declare.specs.declared.Event.{Event}
+use Rattle.declare.specs.declared.Table.{Table}
+use Rattle.declare.specs.declared.Standing.{Standing}
+use Rattle.declare.specs.declared.Standing.the-variants.{Idle, Open, Fulfilled, Violated}
+use Rattle.declare.specs.Events.{wellFormed, eventAt}
+use Rattle.declare.specs.Rules.{noRule, validTable}
+use Rattle.declare.specs.Continuations.{horizon}
+use Rattle.declare.specs.Reachability.{standing}
+use Rattle.declare.specs.Standings.{isIdle, isOpen}
+use Rattle.judge.specs.Cells.{standingIn}
+use Rattle.run.specs.declared.Run.{Run}
+use Rattle.run.specs.Records.{eventsOf, ruleAt, validRun, Sized}
+use Rattle.run.specs.Start.{started}
+use Rattle.run.specs.Take.{appended, judgedRun}
+use Rattle.run.specs.Close.{closedRun}
+use Rattle.run.specs.Queries.{oneOf}
+
+-- ---- the record, and 11
+
+-- the events are those of the record's positions, and no more: "slots past a count are neither
+-- checked nor read"
+pub record Events (r : Run) (es : List Event) : Type 0 where
+  pub size : length es ≡ r .count
+  pub same : (i : ℕ) → 1 ≤ i → i ≤ r .count → eventAt es i ≡ eventAt (r .events) i
+
+-- the standing s of position i is no cause of 11
+pub record MayStand (over : Bool) (count i : ℕ) (s : Standing) : Type 0 where
+  -- "a target above its event count"
+  pub fulfilled : (j : ℕ) → s ≡ Fulfilled j → j ≤ count
+  pub violated : (j : ℕ) → s ≡ Violated j → j ≤ count
+  -- "open in a closed run"
+  pub running : s ≡ Open → over ≡ false
+  -- "a standing of one of its rules not idle past that count"
+  pub idle : count < i → isIdle s ≡ true
+
+-- "record or table outside the limits above, times falling in it, ..": nothing of this
+pub record Valid (r : Run) : Type 0 where
+  pub table : validTable (r .table) ≡ true
+  pub most : r .count ≤ 256
+  pub formed : (i : ℕ) → 1 ≤ i → i ≤ r .count → wellFormed (eventAt (r .events) i) ≡ true
+  pub order : (i : ℕ) → 1 ≤ i → i < r .count → eventAt (r .events) i .time ≤ eventAt (r .events) (i + 1) .time
+  pub standings : (k i : ℕ) → 1 ≤ k → k ≤ r .table .count → 1 ≤ i → i ≤ 256 → MayStand (r .closed) (r .count) i (standingIn (r .cells) k i)
+
+-- ---- start
+
+-- a rule and a position that have a cell
+abbrev pub Placed : ℕ → ℕ → Type 0
+Placed k i = (1 ≤ k) × (k ≤ 16) × (1 ≤ i) × (i ≤ 256)
+
+abbrev pub standingAt : Run → ℕ → ℕ → Standing
+standingAt r k i = standingIn (r .cells) k i
+
+-- "start copies the table and gives a run not closed, with no events, each event slot at time 0,
+-- activity 1 and blank readings, each standing idle"
+pub record Starts (t : Table) (r : Run) : Type 0 where
+  pub phase : r .closed ≡ false
+  pub table : r .table ≡ t
+  pub count : r .count ≡ 0
+  pub slots : length (r .events) ≡ 256
+  pub events : (i : ℕ) → 1 ≤ i → i ≤ 256 → eventAt (r .events) i ≡ record { time = 0; activity = 1; reading1 = Blank; reading2 = Blank; reading3 = Blank; reading4 = Blank }
+  pub cells : length (r .cells) ≡ 4096
+  pub standings : (k i : ℕ) → Placed k i → standingAt r k i ≡ Idle
+
+-- the table of no rules
+pub record NoRules (t : Table) : Type 0 where
+  pub count : t .count ≡ 0
+  pub slots : length (t .rules) ≡ 16
+  pub rules : (k : ℕ) → 1 ≤ k → k ≤ 16 → ruleAt t k ≡ noRule
+
+-- ---- take and close
+
+-- the event stands past the others, and nothing else changes
+pub record Appends (r : Run) (e : Event) (next : Run) : Type 0 where
+  pub phase : next .closed ≡ r .closed
+  pub table : next .table ≡ r .table
+  pub count : next .count ≡ r .count + 1
+  pub slots : length (next .events) ≡ 256
+  pub event : eventAt (next .events) (r .count + 1) ≡ e
+  pub others : (i : ℕ) → 1 ≤ i → (i ≡ r .count + 1 → ⊥) → eventAt (next .events) i ≡ eventAt (r .events) i
+  pub cells : next .cells ≡ r .cells
+
+-- of one of the run's rules and one of its events
+abbrev pub InUse : Run → ℕ → ℕ → Type 0
+InUse r k i = Placed k i × (k ≤ r .table .count) × (i ≤ r .count)
+
+abbrev pub NotInUse : Run → ℕ → ℕ → Type 0
+NotInUse r k i = Placed k i × ((r .table .count < k) ⊎ (r .count < i))
+
+-- only standings change, and only those in use
+pub record KeepsRest (r next : Run) : Type 0 where
+  pub table : next .table ≡ r .table
+  pub count : next .count ≡ r .count
+  pub events : next .events ≡ r .events
+  pub cells : length (next .cells) ≡ 4096
+  pub standings : (k i : ℕ) → NotInUse r k i → standingAt next k i ≡ standingAt r k i
+
+-- what follows "from the events now in the record"
+abbrev pub standingNow : Run → ℕ → ℕ → Standing
+standingNow r k i = standing (ruleAt (r .table) k) (eventsOf r) (horizon (eventsOf r)) i
+
+-- "decided standings (fulfilled or violated) at taken positions are carried over, all others follow
+-- from the events now in the record"
+pub record Judges (r next : Run) : Type 0 where
+  pub phase : next .closed ≡ r .closed
+  pub rest : KeepsRest r next
+  pub fulfilled : (k i j : ℕ) → InUse r k i → standingAt r k i ≡ Fulfilled j → standingAt next k i ≡ Fulfilled j
+  pub violated : (k i j : ℕ) → InUse r k i → standingAt r k i ≡ Violated j → standingAt next k i ≡ Violated j
+  pub «open» : (k i : ℕ) → InUse r k i → standingAt r k i ≡ Open → standingAt next k i ≡ standingNow r k i
+  pub idle : (k i : ℕ) → InUse r k i → standingAt r k i ≡ Idle → standingAt next k i ≡ standingNow r k i
+
+abbrev pub codeAt : Run → ℕ → ℕ
+codeAt r k = ruleAt (r .table) k .code
+
+-- "close turns open into violated for 1 to 7, into fulfilled for 8 to 12, target 0; other standings
+-- it keeps"
+pub record Closes (r next : Run) : Type 0 where
+  pub phase : next .closed ≡ true
+  pub rest : KeepsRest r next
+  pub violated : (k i : ℕ) → InUse r k i → standingAt r k i ≡ Open → 1 ≤ codeAt r k → codeAt r k ≤ 7 → standingAt next k i ≡ Violated 0
+  pub fulfilled : (k i : ℕ) → InUse r k i → standingAt r k i ≡ Open → 8 ≤ codeAt r k → codeAt r k ≤ 12 → standingAt next k i ≡ Fulfilled 0
+  pub others : (k i : ℕ) → Placed k i → isOpen (standingAt r k i) ≡ false → standingAt next k i ≡ standingAt r k i
+
+-- ---- of every run with the slots that the code gives it
+
+pub record Words : Type 0 where
+  pub events : (r : Run) → Sized r → r .count ≤ 256 → Events r (eventsOf r)
+  pub valid : (r : Run) → Sized r → (validRun r ≡ true) ↔ Valid r
+  pub starts : (t : Table) → validTable t ≡ true → Starts t (started t)
+  pub refuses : (t : Table) → validTable t ≡ false → (none : Table) × NoRules none × Starts none (started t)
+  pub appends : (r : Run) (e : Event) → Sized r → r .count < 256 → Appends r e (appended r e)
+  pub judges : (r : Run) → Sized r → Judges r (judgedRun r)
+  pub closes : (r : Run) → Sized r → Closes r (closedRun r)
+  -- "positions, rules and lines count from 1"
+  pub one-of : (n k : ℕ) → (oneOf n k ≡ true) ↔ ((1 ≤ k) × (k ≤ n))
