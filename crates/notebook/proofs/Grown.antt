@@ -2,37 +2,29 @@
 --
 -- All events of a cycle are taken. The grown run has the verdicts where a cell is in use, and is idle elsewhere; so has the finished one.
 use mathlib.Core.Path.{_≡_, sym, ap, subst, _∙_}
-use mathlib.Core.Bool.{Bool, true, false, cond, _&&_}
+use mathlib.Core.Bool.{Bool, true, cond, _&&_}
 use mathlib.Core.List.{List, [], _∷_, _++_, append-nil, append-assoc}
-use Prim.Native.Nat.{ℕ, _+_, _-_, _*_, _/_, _%_, _≤_, _<_}
+use Prim.Native.Nat.{ℕ}
 use native.Mathlib.Omega.{arith}
 use borrow.Author.Tests.{lt-ltb}
-use lib.Dec.{leb, ltb}
-use lib.ListN.{length, getD, take, replicate, length-append, length-replicate}
-use lib.Seq.{take-append-seam}
+use lib.Dec.{leb}
+use lib.ListN.{length, length-append}
 use Rattle.declare.specs.declared.Event.{Event}
 use Rattle.declare.specs.declared.Rule.{Rule}
 use Rattle.declare.specs.declared.Table.{Table}
-use Rattle.declare.specs.declared.Standing.{Standing}
-use Rattle.declare.specs.Lists.{all, mapFrom}
-use Rattle.declare.specs.Events.{wellFormed, nonFalling, nonFallingFrom, lastFrom, lastTime, emptySlot}
-use Rattle.declare.specs.Rules.{noRule, validTable}
-use Rattle.declare.specs.Verdicts.{verdict}
+use Rattle.declare.specs.Lists.{all}
+use Rattle.declare.specs.Events.{wellFormed, nonFalling, nonFallingFrom, lastFrom, lastTime}
+use Rattle.declare.specs.Rules.{validTable}
 use Rattle.declare.specs.Continuations.{horizon}
-use Rattle.declare.specs.Steps.{capacity, Cycle, carried, isTaken, takenAfter, taken}
+use Rattle.declare.specs.Steps.{capacity, Cycle, isTaken, takenAfter, taken}
 use Rattle.declare.proofs.Booleans.{and-left, and-right, both₃}
 use Rattle.declare.proofs.Extension.{non-falling-parts}
-use Rattle.declare.proofs.Sweeps.{getD-map-from, length-map-from}
 use Rattle.judge.specs.declared.Cell.{Cell}
-use Rattle.judge.specs.Cells.{idleCell, placeOf, standingIn, inUse, judged, cellAfter, judgedCell, judgedCells}
 use Rattle.run.specs.declared.Run.{Run}
-use Rattle.run.specs.Records.{ruleAt}
 use Rattle.run.specs.Close.{closedRun}
-use Rattle.run.specs.Takes.{grown, RunOf, finished, Takes}
-use Rattle.run.proofs.Lists.{all-parts, replicated}
+use Rattle.run.specs.Takes.{grown, RunOf, finished}
+use Rattle.run.proofs.Lists.{all-parts}
 use Rattle.run.proofs.Takes.{takes}
-use Rattle.run.proofs.Validity.{idle-cells}
-use Rattle.run.proofs.Places.{judged-standing, judged-kept}
 use Rattle.run.proofs.Bounds.{rules-within}
 use Rattle.cycle_text.specs.Reads.{padded}
 use Rattle.line.specs.Texts.{All}
@@ -40,7 +32,8 @@ use Rattle.cycle_text.specs.Cycle.{cycleTextOf}
 use Rattle.rule_text.specs.Rules.{rulesTextOf}
 use Rattle.rule_text.specs.Reads.{tableOf}
 use Rattle.notebook.specs.Notebook.{accepted, finishedRun, readWith, finishedOf, notebookOf}
-use Rattle.notebook.proofs.Cells.{Filled, SameStandings, same-cells}
+use Rattle.notebook.proofs.Cells.{same-cells}
+use Rattle.notebook.proofs.Finished.{cells, cells-size, cells-idle, cells-verdict}
 
 -- ---- all events of a cycle are taken
 
@@ -74,45 +67,19 @@ same-run q r a b c d e =
     ∙ ap (λ (x : List Cell). record { closed = r .closed; table = r .table; count = r .count; events = r .events; cells = x }) e
 
 module _ (t : Table) (slots : length (t .rules) ≡ 16) (valid : validTable t ≡ true) (es : List Event) (cycle : Cycle es) where
-  abbrev blank : List Cell
-  blank = replicate 4096 idleCell
-
-  blank-size : length blank ≡ 4096
-  blank-size = length-replicate 4096 idleCell
-
-  first : take (length es) (padded es) ≡ es
-  unfolding padded
-  first = take-append-seam es (replicate (256 - length es) emptySlot)
-
   -- the closed run of these events
   closed : RunOf t es true (finished es) (closedRun (grown t es))
   closed =
       subst (λ (l : List Event). RunOf t l true (finished l) (closedRun (grown t es))) (taken-cycle es cycle)
       (takes t es slots valid .closed-run)
 
-  abbrev cells : List Cell
-  cells = finishedRun t (length es) (padded es) .cells
-
-  filled : Filled (t .count) (length es) cells
-  unfolding finishedRun judgedCells
-  filled =
-      record {
-        size = length-map-from (judgedCell false (t .rules) (t .count) (padded es) (length es) 0) 0 blank ∙ blank-size;
-        idle = λ j h u. judged-kept blank j (rw blank-size h) false (t .rules) (t .count) (padded es) (length es) 0 u ∙ replicated 4096 j idleCell;
-      }
-
-  verdicts : (k i : ℕ) → 1 ≤ k → k ≤ t .count → 1 ≤ i → i ≤ length es → standingIn cells k i ≡ verdict (ruleAt t k) es i
-  unfolding finishedRun ruleAt capacity
-  verdicts k i a b c d =
-      judged-standing blank blank-size k i a (omega (arith, b, rules-within t valid)) c (omega (arith, d, cycle .most)) false (t .rules) (t .count) (padded es) (length es) 0 b d
-      ∙ ap (λ (s : Standing). carried s (judged false (getD (t .rules) (k - 1) noRule) (take (length es) (padded es)) 0 i)) (idle-cells 4096 k i)
-      ∙ unfold carried judged in ap (λ (l : List Event). verdict (getD (t .rules) (k - 1) noRule) l i) first
-
-  same : cells ≡ closedRun (grown t es) .cells
+  same : cells t es ≡ closedRun (grown t es) .cells
+  unfolding capacity
   same =
-      same-cells (t .count) (length es) cells (closedRun (grown t es) .cells) filled
+      same-cells (t .count) (length es) (cells t es) (closedRun (grown t es) .cells)
+      (record { size = cells-size t es; idle = cells-idle t es })
       (record { size = closed .cells; idle = closed .idle })
-      (λ k i a b c d. verdicts k i a b c d ∙ sym (closed .standings k i a b c d))
+      (λ k i a b c d. cells-verdict t es k i (a, omega (arith, b, rules-within t valid), c, omega (arith, d, cycle .most)) b d ∙ sym (closed .standings k i a b c d))
 
   pub finished-is-grown : finishedRun t (length es) (padded es) ≡ closedRun (grown t es)
   unfolding finishedRun padded capacity

@@ -1,5 +1,5 @@
--- The definitions compute what document 01's sentences say: a test of all places says what it says of
--- each, and a change of all cells changes the cell of each rule and position as it should.
+-- The definitions compute what document 01's sentences say: a test of all places says what it says
+-- of each, and a change of all cells changes the cell of each rule and position as it should.
 use mathlib.Core.Path.{_≡_, refl, sym, ap, _∙_}
 use mathlib.Core.Logic.{⊎-elim, inl, inr}
 use mathlib.Core.Bool.{Bool, true, false, not, cond, _&&_, and-false}
@@ -167,6 +167,13 @@ refuses t v = (emptyTable, none-has, rw v (new-starts emptyTable))
 
 -- ---- take and close
 
+pub not-used : (r : Run) (k i : ℕ) → NotInUse r k i → inUse (r .table .count) (r .count) (placeOf k i) ≡ false
+not-used r k i u =
+    in-use k i (u .0 .0) (u .0 .2) (u .0 .3) (r .table .count) (r .count)
+    ∙ ⊎-elim (λ l. ap (λ (t : Bool). t && leb i (r .count)) (lt-leb k (r .table .count) l))
+    (λ l. ap (λ (t : Bool). leb k (r .table .count) && t) (lt-leb i (r .count) l) ∙ and-false (leb k (r .table .count)))
+    (u .1)
+
 module _ (r : Run) (size : Sized r) where
   appends : (e : Event) → r .count < 256 → Appends r e (appended r e)
   unfolding appended eventAt
@@ -184,14 +191,6 @@ module _ (r : Run) (size : Sized r) where
       }
 
   module _ (k i : ℕ) where
-    -- a cell not in use stays
-    not-used : NotInUse r k i → inUse (r .table .count) (r .count) (placeOf k i) ≡ false
-    not-used u =
-        in-use k i (u .0 .0) (u .0 .2) (u .0 .3) (r .table .count) (r .count)
-        ∙ ⊎-elim (λ l. ap (λ (t : Bool). t && leb i (r .count)) (lt-leb k (r .table .count) l))
-        (λ l. ap (λ (t : Bool). leb k (r .table .count) && t) (lt-leb i (r .count) l) ∙ and-false (leb k (r .table .count)))
-        (u .1)
-
     within : Placed k i → placeOf k i < length (r .cells)
     within p = omega (arith, size .cells, p .0, p .1, p .2, p .3)
 
@@ -199,13 +198,14 @@ module _ (r : Run) (size : Sized r) where
     unfolding standingIn
     same-cell cells e = ap (λ (c : Cell). c .standing) e
 
+    -- a cell not in use stays
     judged-rest : NotInUse r k i → standingAt (judgedRun r) k i ≡ standingAt r k i
     unfolding judgedRun
-    judged-rest u = same-cell _ (judged-kept (r .cells) (placeOf k i) (within (u .0)) true (r .table .rules) (r .table .count) (r .events) (r .count) (horizon (eventsOf r)) (not-used u))
+    judged-rest u = same-cell _ (judged-kept (r .cells) (placeOf k i) (within (u .0)) true (r .table .rules) (r .table .count) (r .events) (r .count) (horizon (eventsOf r)) (not-used r k i u))
 
     closed-rest : NotInUse r k i → standingAt (closedRun r) k i ≡ standingAt r k i
     unfolding closedRun
-    closed-rest u = same-cell _ (closed-kept (r .cells) (placeOf k i) (within (u .0)) (r .table) (r .count) (not-used u))
+    closed-rest u = same-cell _ (closed-kept (r .cells) (placeOf k i) (within (u .0)) (r .table) (r .count) (not-used r k i u))
 
     -- one in use by what stands there
     judged-from : InUse r k i → {s : Standing} → standingAt r k i ≡ s → standingAt (judgedRun r) k i ≡ carried s (standingNow r k i)

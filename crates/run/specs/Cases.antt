@@ -1,4 +1,5 @@
--- The totals of a few standings: what the definitions give, and what it should be. Proved as `checked` in proofs/Cases.
+-- The totals of a few standings: what the definitions give, and what it should be. Proved as
+-- `checked` in proofs/Cases.
 use mathlib.Core.Path.{_≡_}
 use mathlib.Core.List.{List, [], _∷_, map}
 use Prim.Native.Nat.{ℕ, _-_}

@@ -1,2 +1,3 @@
 -- The laws of the tally.
 pub mod Sums
+pub mod Cases

@@ -1,2 +1,3 @@
 pub mod Tally
 pub mod Sums
+pub mod Cases

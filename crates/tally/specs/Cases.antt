@@ -1,0 +1,107 @@
+-- The tally at both sides of its limit, and its refusals: what the definitions give, and what it
+-- should be. Proved as `checked` in proofs/Cases.
+use mathlib.Core.Bool.{Bool, true, false}
+use mathlib.Core.List.{List, [], _∷_, _++_}
+use Prim.Native.Nat.{ℕ}
+use lib.ListN.{replicate}
+use Rattle.declare.specs.declared.End.the-variants.{Never}
+use Rattle.declare.specs.declared.Standing.{Standing}
+use Rattle.declare.specs.declared.Standing.the-variants.{Idle, Open, Fulfilled, Violated}
+use Rattle.declare.specs.Refusals.{number}
+use Rattle.declare.specs.EdgeCycles.{always, window, rule, event}
+use Rattle.judge.specs.Cells.{idleCell}
+use Rattle.run.specs.declared.Run.{Run}
+use Rattle.run.specs.declared.Totals.{Totals}
+use Rattle.run.specs.Replies.{Reply, accepted, refused}
+use Rattle.run.specs.Cases.{Case, _is_, AsExpected, totals}
+use Rattle.tally.specs.declared.Tally.{Tally}
+use Rattle.tally.specs.Tally.{fits, added, countsOf, withCounts, absorbOf, tallyAfter, totalsAfter}
+
+-- cycles, activations, fulfilled, violated
+abbrev pub tally : ℕ → ℕ → ℕ → ℕ → Tally
+tally cycles activations fulfilled violated =
+    record { cycles = cycles; activations = activations; fulfilled = fulfilled; violated = violated }
+
+-- ---- 14
+
+-- "a tally field would pass 4294967295": each field alone; what is open is no field of a tally
+unfoldable pub limits : List (Case Bool)
+limits =
+    fits (tally 4294967294 0 0 0) (totals 0 0 0 0) is true
+    ∷ fits (tally 4294967295 0 0 0) (totals 0 0 0 0) is false
+    ∷ fits (tally 0 4294967290 0 0) (totals 5 0 0 0) is true
+    ∷ fits (tally 0 4294967290 0 0) (totals 6 0 0 0) is false
+    ∷ fits (tally 0 0 4294967290 0) (totals 0 5 0 0) is true
+    ∷ fits (tally 0 0 4294967290 0) (totals 0 6 0 0) is false
+    ∷ fits (tally 0 0 0 4294967290) (totals 0 0 5 0) is true
+    ∷ fits (tally 0 0 0 4294967290) (totals 0 0 6 0) is false
+    ∷ fits (tally 4294967294 4294967290 4294967290 4294967290) (totals 5 5 5 6) is true
+    ∷ []
+
+-- "cycles by 1, the others by that rule's totals"
+unfoldable pub sums : List (Case Tally)
+sums =
+    added (tally 0 0 0 0) (totals 0 0 0 0) is tally 1 0 0 0
+    ∷ added (tally 1 20 300 4000) (totals 5 6 7 8) is tally 2 25 306 4007
+    ∷ added (tally 4294967294 0 0 0) (totals 0 0 0 0) is tally 4294967295 0 0 0
+    ∷ []
+
+-- ---- 11, 10, 9
+
+-- a run of two rules and three events, with the standing s at position 3 under rule 2
+abbrev pub run : Bool → Standing → Run
+run closed s =
+    record {
+      closed = closed;
+      table = record { count = 2; rules = rule 2 2 (window 0 Never) always ∷ rule 2 3 (window 0 Never) always ∷ [] };
+      count = 3;
+      events = event 0 1 ∷ event 0 1 ∷ event 0 1 ∷ [];
+      cells =
+          record { standing = Fulfilled 3 }
+          ∷ replicate 255 idleCell ++ (record { standing = Fulfilled 2 } ∷ record { standing = Violated 0 } ∷ record { standing = s } ∷ []);
+    }
+
+-- "tally: 11, 10, 9": an earlier cause is said before a later one
+unfoldable pub counts : List (Case (Reply Totals))
+counts =
+    countsOf (run true (Violated 0)) 1 is accepted (totals 1 1 0 0)
+    ∷ countsOf (run true (Violated 0)) 2 is accepted (totals 3 1 2 0)
+    ∷ countsOf (run false Open) 2 is refused (number 9)
+    ∷ countsOf (run true Idle) 0 is refused (number 10)
+    ∷ countsOf (run true Idle) 3 is refused (number 10)
+    ∷ countsOf (run false Idle) 3 is refused (number 10)
+    ∷ countsOf (run true Open) 1 is refused (number 11)
+    ∷ countsOf (run false (Violated 4)) 3 is refused (number 11)
+    ∷ []
+
+-- "..., 14"
+unfoldable pub absorbed : List (Case (Reply Tally))
+absorbed =
+    withCounts (tally 1 20 300 4000) (accepted (totals 5 6 7 8)) is accepted (tally 2 25 306 4007)
+    ∷ withCounts (tally 4294967295 0 0 0) (accepted (totals 0 0 0 0)) is refused (number 14)
+    ∷ withCounts (tally 4294967295 0 0 0) (refused (number 10)) is refused (number 10)
+    ∷ absorbOf (run true Idle) 2 (tally 6 5 4 3) is accepted (tally 7 7 5 4)
+    ∷ []
+
+-- ---- what stands beside an answer
+
+-- "a refusal alters neither run nor tally"
+unfoldable pub after : List (Case Tally)
+after =
+    tallyAfter (tally 1 2 3 4) (accepted (tally 5 6 7 8)) is tally 5 6 7 8
+    ∷ tallyAfter (tally 1 2 3 4) (refused (number 14)) is tally 1 2 3 4
+    ∷ []
+
+unfoldable pub beside : List (Case Totals)
+beside =
+    totalsAfter (accepted (totals 1 2 3 4)) is totals 1 2 3 4
+    ∷ totalsAfter (refused (number 9)) is totals 0 0 0 0
+    ∷ []
+
+pub record Checked : Type 0 where
+  pub of-limits : AsExpected limits
+  pub of-sums : AsExpected sums
+  pub of-counts : AsExpected counts
+  pub of-absorbed : AsExpected absorbed
+  pub of-after : AsExpected after
+  pub of-beside : AsExpected beside
