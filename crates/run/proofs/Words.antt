@@ -33,7 +33,7 @@ use Rattle.run.specs.Start.{newRun, startOf, emptyTable, started}
 use Rattle.run.specs.Take.{appended, judgedRun}
 use Rattle.run.specs.Close.{closedAt, closedCells, closedRun}
 use Rattle.run.specs.Words.{Events, MayStand, Valid, Placed, standingAt, Starts, NoRules, Appends, InUse, NotInUse, standingNow, Judges, codeAt, Closes, Words}
-use Rattle.run.proofs.Bounds.{valid-parts, one-of}
+use Rattle.run.proofs.Bounds.{valid-parts}
 use Rattle.run.proofs.Codes.{closing-by-code}
 use Rattle.run.proofs.Lists.{all-taken, all-each, each-all}
 use Rattle.run.proofs.Places.{in-use, judged-standing, judged-kept, closed-standing, closed-kept, standings-each, each-standings}
@@ -281,5 +281,4 @@ words =
       appends = λ r e size room. appends r size e room;
       judges = judges;
       closes = closes;
-      one-of = λ n k. (one-of n k, λ p. both (le-leb 1 k (p .0)) (le-leb k n (p .1)));
     }

@@ -1,13 +1,24 @@
--- The totals of a few standings: what the definitions give, and what it should be. Proved as
--- `checked` in proofs/Cases.
+-- Small records, at both sides of each limit: what the definitions give, and what it should be.
+-- Proved as `checked` in proofs/Cases.
 use mathlib.Core.Path.{_≡_}
-use mathlib.Core.List.{List, [], _∷_, map}
+use mathlib.Core.Bool.{Bool, true, false}
+use mathlib.Core.List.{List, [], _∷_, _++_, map}
 use Prim.Native.Nat.{ℕ, _-_}
-use lib.ListN.{getD}
+use lib.ListN.{getD, replicate}
+use Rattle.declare.specs.declared.End.the-variants.{Never, At}
+use Rattle.declare.specs.declared.Event.{Event}
+use Rattle.declare.specs.declared.Rule.{Rule}
 use Rattle.declare.specs.declared.Standing.{Standing}
 use Rattle.declare.specs.declared.Standing.the-variants.{Idle, Open, Fulfilled, Violated}
+use Rattle.declare.specs.Rules.{noRule}
+use Rattle.declare.specs.EdgeCycles.{always, window, rule, event}
+use Rattle.judge.specs.declared.Cell.{Cell}
+use Rattle.run.specs.declared.Run.{Run}
 use Rattle.run.specs.declared.Totals.{Totals}
-use Rattle.run.specs.Queries.{totalsBy}
+use Rattle.run.specs.Records.{validRun}
+use Rattle.run.specs.Take.{judgedRun}
+use Rattle.run.specs.Close.{closedRun}
+use Rattle.run.specs.Queries.{oneOf, totalsBy}
 
 -- ---- how the cases are written
 
@@ -23,12 +34,116 @@ _is_ a b = record { found = a; expected = b }
 abbrev pub AsExpected : {A : Type 0} → List (Case A) → Type 0
 AsExpected {A} cases = map (λ (c : Case A). c .found) cases ≡ map (λ (c : Case A). c .expected) cases
 
+-- activity 1 is answered by 2
+abbrev pub coded : ℕ → Rule
+coded code = rule code 2 (window 0 Never) always
+
+-- a record of the first k of these rules, the first n of these events, and these standings, from the
+-- first on
+abbrev pub recordOf : Bool → List Rule → ℕ → List Event → ℕ → List Standing → Run
+recordOf closed rules k events n standings =
+    record {
+      closed = closed;
+      table = record { count = k; rules = rules };
+      count = n;
+      events = events;
+      cells = map (λ (s : Standing). record { standing = s }) standings;
+    }
+
+abbrev pub standingsOf : Run → List Standing
+standingsOf r = map (λ (c : Cell). c .standing) (r .cells)
+
+-- ---- 11
+
+-- by the events
+abbrev pub ofEvents : List Event → ℕ → Run
+ofEvents events n = recordOf false [] 0 events n []
+
+-- by the standings under the first k of two rules, of n events
+abbrev pub ofStandings : Bool → ℕ → ℕ → List Standing → Run
+ofStandings closed k n standings =
+    recordOf closed (coded 2 ∷ coded 9 ∷ []) k (replicate n (event 0 1)) n standings
+
+unfoldable pub records : List (Case Bool)
+records =
+    -- the table
+    validRun (recordOf false (coded 2 ∷ noRule ∷ []) 1 [] 0 []) is true
+    ∷ validRun (recordOf false (coded 2 ∷ noRule ∷ []) 2 [] 0 []) is false
+    ∷ validRun (recordOf false (replicate 17 (coded 2)) 17 [] 0 []) is false
+    -- the events: at most 256, each up to the count well-formed, times not falling
+    ∷ validRun (ofEvents (replicate 257 (event 0 1)) 256) is true
+    ∷ validRun (ofEvents (replicate 257 (event 0 1)) 257) is false
+    ∷ validRun (ofEvents (event 0 1 ∷ event 0 65 ∷ []) 1) is true
+    ∷ validRun (ofEvents (event 0 1 ∷ event 0 65 ∷ []) 2) is false
+    ∷ validRun (ofEvents (event 0 0 ∷ event 0 1 ∷ []) 2) is false
+    ∷ validRun (ofEvents (event 5 1 ∷ event 5 1 ∷ event 4 1 ∷ []) 2) is true
+    ∷ validRun (ofEvents (event 5 1 ∷ event 5 1 ∷ event 4 1 ∷ []) 3) is false
+    ∷ validRun (ofEvents (event 5 1 ∷ event 4 1 ∷ event 4 1 ∷ []) 3) is false
+    -- idle, and open
+    ∷ validRun (ofStandings false 1 1 (Idle ∷ [])) is true
+    ∷ validRun (ofStandings true 1 1 (Idle ∷ [])) is true
+    ∷ validRun (ofStandings false 1 1 (Open ∷ [])) is true
+    ∷ validRun (ofStandings true 1 1 (Open ∷ [])) is false
+    -- targets up to the event count
+    ∷ validRun (ofStandings true 1 2 (Fulfilled 2 ∷ Violated 2 ∷ [])) is true
+    ∷ validRun (ofStandings true 1 2 (Fulfilled 3 ∷ Violated 2 ∷ [])) is false
+    ∷ validRun (ofStandings true 1 2 (Fulfilled 2 ∷ Violated 3 ∷ [])) is false
+    -- past the count all are idle, up to position 256
+    ∷ validRun (ofStandings true 1 2 (Idle ∷ Violated 0 ∷ [])) is true
+    ∷ validRun (ofStandings true 1 1 (Idle ∷ Violated 0 ∷ [])) is false
+    ∷ validRun (ofStandings true 1 256 (replicate 255 Idle ++ (Fulfilled 0 ∷ []))) is true
+    ∷ validRun (ofStandings true 1 255 (replicate 255 Idle ++ (Fulfilled 0 ∷ []))) is false
+    -- of its rules only
+    ∷ validRun (ofStandings true 1 1 (replicate 256 Idle ++ (Open ∷ []))) is true
+    ∷ validRun (ofStandings true 2 1 (replicate 256 Idle ++ (Open ∷ []))) is false
+    ∷ []
+
+-- ---- take
+
+-- the standings after a take: response within 500 ms
+abbrev pub judged : List Event → ℕ → List Standing → List Standing
+judged events n standings =
+    standingsOf (judgedRun (recordOf false (rule 2 2 (window 0 (At 500)) always ∷ []) 1 events n standings))
+
+unfoldable pub judgements : List (Case (List Standing))
+judgements =
+    -- open until 500 is reached; a slot past the count is not read
+    judged (event 0 1 ∷ event 499 1 ∷ event 500 2 ∷ []) 2 (Open ∷ Idle ∷ Idle ∷ []) is (Open ∷ Open ∷ Idle ∷ [])
+    ∷ judged (event 0 1 ∷ event 500 1 ∷ event 500 2 ∷ []) 2 (Open ∷ Idle ∷ Idle ∷ []) is (Violated 0 ∷ Open ∷ Idle ∷ [])
+    -- what is decided stays, whatever the events say
+    ∷ judged (event 0 1 ∷ event 1 1 ∷ event 2 9 ∷ []) 3 (Fulfilled 9 ∷ Violated 9 ∷ Open ∷ []) is (Fulfilled 9 ∷ Violated 9 ∷ Idle ∷ [])
+    ∷ []
+
+-- ---- close
+
+-- the standings after closing a run of one rule and three events
+abbrev pub closes : ℕ → List Standing → List Standing
+closes code standings =
+    standingsOf (closedRun (recordOf false (coded code ∷ []) 1 (replicate 3 (event 0 1)) 3 standings))
+
+unfoldable pub closings : List (Case (List Standing))
+closings =
+    closes 1 (Open ∷ []) is (Violated 0 ∷ [])
+    ∷ closes 7 (Open ∷ []) is (Violated 0 ∷ [])
+    ∷ closes 8 (Open ∷ []) is (Fulfilled 0 ∷ [])
+    ∷ closes 12 (Open ∷ []) is (Fulfilled 0 ∷ [])
+    ∷ closes 2 (Idle ∷ Fulfilled 3 ∷ Violated 2 ∷ []) is (Idle ∷ Fulfilled 3 ∷ Violated 2 ∷ [])
+    -- position 3 is the last
+    ∷ closes 2 (Idle ∷ Idle ∷ Open ∷ Open ∷ []) is (Idle ∷ Idle ∷ Violated 0 ∷ Open ∷ [])
+    -- rule 2 by its own code; there is no rule 3
+    ∷ standingsOf (closedRun (ofStandings false 2 1 (replicate 256 Idle ++ (Open ∷ replicate 255 Idle ++ (Open ∷ []))))) is (replicate 256 Idle ++ (Fulfilled 0 ∷ replicate 255 Idle ++ (Open ∷ [])))
+    ∷ []
+
+-- ---- standing and totals
+
+-- "positions, rules and lines count from 1"
+unfoldable pub numbers : List (Case Bool)
+numbers = oneOf 3 0 is false ∷ oneOf 3 1 is true ∷ oneOf 3 3 is true ∷ oneOf 3 4 is false ∷ []
+
 -- activations, fulfilled, violated, open
 abbrev pub totals : ℕ → ℕ → ℕ → ℕ → Totals
 totals activations fulfilled violated still =
     record { activations = activations; fulfilled = fulfilled; violated = violated; «open» = still }
-
--- ---- totals
 
 -- the standing of each of eight positions
 abbrev pub stands : ℕ → Standing
@@ -50,4 +165,8 @@ counted =
     ∷ []
 
 pub record Checked : Type 0 where
+  pub of-records : AsExpected records
+  pub of-takes : AsExpected judgements
+  pub of-closings : AsExpected closings
+  pub of-numbers : AsExpected numbers
   pub of-totals : AsExpected counted

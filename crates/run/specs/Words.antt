@@ -22,7 +22,6 @@ use Rattle.run.specs.Records.{eventsOf, ruleAt, validRun, Sized}
 use Rattle.run.specs.Start.{started}
 use Rattle.run.specs.Take.{appended, judgedRun}
 use Rattle.run.specs.Close.{closedRun}
-use Rattle.run.specs.Queries.{oneOf}
 
 -- ---- the record, and 11
 
@@ -139,5 +138,3 @@ pub record Words : Type 0 where
   pub appends : (r : Run) (e : Event) → Sized r → r .count < 256 → Appends r e (appended r e)
   pub judges : (r : Run) → Sized r → Judges r (judgedRun r)
   pub closes : (r : Run) → Sized r → Closes r (closedRun r)
-  -- "positions, rules and lines count from 1"
-  pub one-of : (n k : ℕ) → (oneOf n k ≡ true) ↔ ((1 ≤ k) × (k ≤ n))
