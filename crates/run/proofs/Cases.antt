@@ -1,10 +1,9 @@
 -- The small records, by computation over the definitions.
 use mathlib.Core.Path.{refl}
-use Rattle.declare.specs.Lists.{all, any, noneBetween, orElse, firstUpTo, allBelow, countBelow, mapFrom}
-use Rattle.declare.specs.Comparisons.{passes}
+use Rattle.declare.specs.Lists.{all, any, orElse, firstUpTo, allBelow, countBelow, mapFrom}
 use Rattle.declare.specs.Conditions.{comparisonsOf, testsOf, met}
-use Rattle.declare.specs.Events.{latest, inRange, isActivity, readingsInRange, wellFormed, nonFallingFrom, nonFalling, lastFrom, lastTime, noEvent, eventAt}
-use Rattle.declare.specs.Rules.{isTemplate, noneTwice, noComparison, noCondition, noRule, validCondition, validEnd, validWindow, validHead, validRule, rulesOf, validTable}
+use Rattle.declare.specs.Events.{latest, inRange, isActivity, readingsInRange, wellFormed, nonFallingFrom, nonFalling, lastFrom, lastTime, eventAt}
+use Rattle.declare.specs.Rules.{isTemplate, noneTwice, noRule, validCondition, validEnd, validWindow, validHead, validRule, rulesOf, validTable}
 use Rattle.declare.specs.Suits.{isActivation, activationAt, before, within, correlates, suits}
 use Rattle.declare.specs.Templates.{templates, templateOf, inReach}
 use Rattle.declare.specs.Verdicts.{eligible, target, decided}
@@ -19,7 +18,7 @@ use Rattle.run.specs.Queries.{countOf, totalsBy}
 use Rattle.run.specs.Cases.{records, judgements, closings, numbers, counted, Checked}
 
 pub checked : Checked
-unfolding records judgements closings numbers counted all any noneBetween orElse firstUpTo allBelow countBelow mapFrom passes comparisonsOf testsOf met latest inRange isActivity readingsInRange wellFormed nonFallingFrom nonFalling lastFrom lastTime noEvent eventAt isTemplate noneTwice noComparison noCondition noRule validCondition validEnd validWindow validHead validRule rulesOf validTable isActivation activationAt before within correlates suits templates templateOf inReach eligible target decided horizon candidates meets someMeets satisfiable soonest hasRoom canCome undecided standing capacity carried closing closed standingIn inUse judged cellAfter judgedCell judgedCells eventsOf validEvents validAt validRow validStandings validRun judgedRun closedCell closedAt closedCells closedRun countOf totalsBy
+unfolding records judgements closings numbers counted all any orElse firstUpTo allBelow countBelow mapFrom comparisonsOf testsOf met latest inRange isActivity readingsInRange wellFormed nonFallingFrom nonFalling lastFrom lastTime eventAt isTemplate noneTwice noRule validCondition validEnd validWindow validHead validRule rulesOf validTable isActivation activationAt before within correlates suits templates templateOf inReach eligible target decided horizon candidates meets someMeets satisfiable soonest hasRoom canCome undecided standing capacity carried closing closed standingIn inUse judged cellAfter judgedCell judgedCells eventsOf validEvents validAt validRow validStandings validRun judgedRun closedCell closedAt closedCells closedRun countOf totalsBy
 checked =
     record {
       of-records = refl;
