@@ -8,11 +8,13 @@ use Rattle.declare.specs.Steps.{capacity}
 use Rattle.judge.specs.Cells.{standingIn}
 use Rattle.run.specs.Records.{validEvents, validAt, validRow, validStandings, validRun}
 use Rattle.run.specs.Queries.{countOf, totalsBy}
-use Rattle.tally.specs.Tally.{fits, countsOf, withCounts, absorbOf, tallyAfter, totalsAfter}
-use Rattle.tally.specs.Cases.{limits, sums, counts, absorbed, after, beside, Checked}
+use Rattle.declare.specs.Refusals.{returned, hasLine, numberOf}
+use Rattle.run.specs.Replies.{refusedFor}
+use Rattle.tally.specs.Tally.{fits, countsOf, withCounts, absorbOf, answerReply, countsReply, tallyAfter}
+use Rattle.tally.specs.Cases.{limits, sums, counts, absorbed, after, answers, countedAnswers, Checked}
 
 pub checked : Checked
-unfolding limits sums counts absorbed after beside all allBelow countBelow comparisonsOf latest inRange isActivity readingsInRange wellFormed nonFallingFrom nonFalling isTemplate noneTwice validCondition validEnd validWindow validHead validRule rulesOf validTable capacity standingIn validEvents validAt validRow validStandings validRun countOf totalsBy fits countsOf withCounts absorbOf tallyAfter totalsAfter
+unfolding limits sums counts absorbed after answers countedAnswers all allBelow countBelow comparisonsOf latest inRange isActivity readingsInRange wellFormed nonFallingFrom nonFalling isTemplate noneTwice validCondition validEnd validWindow validHead validRule rulesOf validTable capacity standingIn validEvents validAt validRow validStandings validRun countOf totalsBy fits countsOf withCounts absorbOf answerReply countsReply tallyAfter refusedFor returned hasLine numberOf
 checked =
     record {
       of-limits = refl;
@@ -20,5 +22,6 @@ checked =
       of-counts = refl;
       of-absorbed = refl;
       of-after = refl;
-      of-beside = refl;
+      of-answers = refl;
+      of-counted-answers = refl;
     }

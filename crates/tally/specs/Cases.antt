@@ -7,15 +7,18 @@ use lib.ListN.{replicate}
 use Rattle.declare.specs.declared.End.the-variants.{Never}
 use Rattle.declare.specs.declared.Standing.{Standing}
 use Rattle.declare.specs.declared.Standing.the-variants.{Idle, Open, Fulfilled, Violated}
+use Rattle.declare.specs.declared.Refusal.the-variants.{InvalidRecord, NotFound, WrongPhase, TallyOverflow}
 use Rattle.declare.specs.Refusals.{number}
 use Rattle.declare.specs.EdgeCycles.{always, window, rule, event}
 use Rattle.judge.specs.Cells.{idleCell}
 use Rattle.run.specs.declared.Run.{Run}
 use Rattle.run.specs.declared.Totals.{Totals}
-use Rattle.run.specs.Replies.{Reply, accepted, refused}
+use Rattle.run.specs.Replies.{Reply, accepted, refused, refusedFor}
 use Rattle.run.specs.Cases.{Case, _is_, AsExpected, totals}
 use Rattle.tally.specs.declared.Tally.{Tally}
-use Rattle.tally.specs.Tally.{fits, added, countsOf, withCounts, absorbOf, tallyAfter, totalsAfter}
+use Rattle.tally.specs.declared.Answer.the-variants as Answer
+use Rattle.tally.specs.declared.CountedAnswer.the-variants as CountedAnswer
+use Rattle.tally.specs.Tally.{fits, added, countsOf, withCounts, absorbOf, answerReply, countsReply, tallyAfter}
 
 -- cycles, activations, fulfilled, violated
 abbrev pub tally : ℕ → ℕ → ℕ → ℕ → Tally
@@ -92,10 +95,22 @@ after =
     ∷ tallyAfter (tally 1 2 3 4) (refused (number 14)) is tally 1 2 3 4
     ∷ []
 
-unfoldable pub beside : List (Case Totals)
-beside =
-    totalsAfter (accepted (totals 1 2 3 4)) is totals 1 2 3 4
-    ∷ totalsAfter (refused (number 9)) is totals 0 0 0 0
+-- an answer of the code has the number of the refusal of that name
+unfoldable pub answers : List (Case (Reply Tally))
+answers =
+    answerReply (tally 1 2 3 4) Answer.Absorbed is accepted (tally 1 2 3 4)
+    ∷ answerReply (tally 1 2 3 4) Answer.InvalidRecord is refusedFor InvalidRecord
+    ∷ answerReply (tally 1 2 3 4) Answer.NotFound is refusedFor NotFound
+    ∷ answerReply (tally 1 2 3 4) Answer.WrongPhase is refusedFor WrongPhase
+    ∷ answerReply (tally 1 2 3 4) Answer.Overflow is refusedFor TallyOverflow
+    ∷ []
+
+unfoldable pub countedAnswers : List (Case (Reply Totals))
+countedAnswers =
+    countsReply (CountedAnswer.Are (totals 1 2 3 4)) is accepted (totals 1 2 3 4)
+    ∷ countsReply CountedAnswer.InvalidRecord is refusedFor InvalidRecord
+    ∷ countsReply CountedAnswer.NotFound is refusedFor NotFound
+    ∷ countsReply CountedAnswer.WrongPhase is refusedFor WrongPhase
     ∷ []
 
 pub record Checked : Type 0 where
@@ -104,4 +119,5 @@ pub record Checked : Type 0 where
   pub of-counts : AsExpected counts
   pub of-absorbed : AsExpected absorbed
   pub of-after : AsExpected after
-  pub of-beside : AsExpected beside
+  pub of-answers : AsExpected answers
+  pub of-counted-answers : AsExpected countedAnswers
