@@ -5,3 +5,4 @@ pub mod Finished
 pub mod Grown
 pub mod Replies
 pub mod Words
+pub mod Cases

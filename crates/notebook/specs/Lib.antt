@@ -1,3 +1,4 @@
 pub mod Types
 pub mod Notebook
 pub mod Words
+pub mod Cases

@@ -16,6 +16,7 @@ use Rattle.judge.specs.declared.Cell.{Cell}
 use Rattle.run.specs.declared.Run.{Run}
 use Rattle.run.specs.declared.Totals.{Totals}
 use Rattle.run.specs.Records.{validRun}
+use Rattle.run.specs.Start.{started}
 use Rattle.run.specs.Take.{judgedRun}
 use Rattle.run.specs.Close.{closedRun}
 use Rattle.run.specs.Queries.{oneOf, totalsBy}
@@ -98,6 +99,15 @@ records =
     ∷ validRun (ofStandings true 2 1 (replicate 256 Idle ++ (Open ∷ []))) is false
     ∷ []
 
+-- ---- start
+
+-- the rules of the run that start gives: those of the table, or none if it is refused
+unfoldable pub starts : List (Case ℕ)
+starts =
+    started (record { count = 1; rules = coded 2 ∷ noRule ∷ [] }) .table .count is 1
+    ∷ started (record { count = 2; rules = coded 2 ∷ noRule ∷ [] }) .table .count is 0
+    ∷ []
+
 -- ---- take
 
 -- the standings after a take: response within 500 ms
@@ -166,6 +176,7 @@ counted =
 
 pub record Checked : Type 0 where
   pub of-records : AsExpected records
+  pub of-starts : AsExpected starts
   pub of-takes : AsExpected judgements
   pub of-closings : AsExpected closings
   pub of-numbers : AsExpected numbers
