@@ -15,7 +15,7 @@ use Rattle.declare.specs.EdgeCycles.{always, window, rule, event}
 use Rattle.judge.specs.declared.Cell.{Cell}
 use Rattle.run.specs.declared.Run.{Run}
 use Rattle.run.specs.declared.Totals.{Totals}
-use Rattle.run.specs.Records.{validRun}
+use Rattle.run.specs.Records.{ruleAt, validRun}
 use Rattle.run.specs.Start.{started}
 use Rattle.run.specs.Take.{judgedRun}
 use Rattle.run.specs.Close.{closedRun}
@@ -39,8 +39,8 @@ AsExpected {A} cases = map (λ (c : Case A). c .found) cases ≡ map (λ (c : Ca
 abbrev pub coded : ℕ → Rule
 coded code = rule code 2 (window 0 Never) always
 
--- a record of the first k of these rules, the first n of these events, and these standings, from the
--- first on
+-- a record of the first k of these rules and the first n of these events; its first cells have these
+-- standings, and it has no others
 abbrev pub recordOf : Bool → List Rule → ℕ → List Event → ℕ → List Standing → Run
 recordOf closed rules k events n standings =
     record {
@@ -54,7 +54,14 @@ recordOf closed rules k events n standings =
 abbrev pub standingsOf : Run → List Standing
 standingsOf r = map (λ (c : Cell). c .standing) (r .cells)
 
--- ---- 11
+-- ---- the record, and 11
+
+-- "rules count from 1"
+unfoldable pub codes : List (Case ℕ)
+codes =
+    ruleAt (record { count = 2; rules = coded 2 ∷ coded 9 ∷ [] }) 1 .code is 2
+    ∷ ruleAt (record { count = 2; rules = coded 2 ∷ coded 9 ∷ [] }) 2 .code is 9
+    ∷ []
 
 -- by the events
 abbrev pub ofEvents : List Event → ℕ → Run
@@ -70,6 +77,7 @@ records =
     -- the table
     validRun (recordOf false (coded 2 ∷ noRule ∷ []) 1 [] 0 []) is true
     ∷ validRun (recordOf false (coded 2 ∷ noRule ∷ []) 2 [] 0 []) is false
+    ∷ validRun (recordOf false (replicate 17 (coded 2)) 16 [] 0 []) is true
     ∷ validRun (recordOf false (replicate 17 (coded 2)) 17 [] 0 []) is false
     -- the events: at most 256, each up to the count well-formed, times not falling
     ∷ validRun (ofEvents (replicate 257 (event 0 1)) 256) is true
@@ -175,6 +183,7 @@ counted =
     ∷ []
 
 pub record Checked : Type 0 where
+  pub of-codes : AsExpected codes
   pub of-records : AsExpected records
   pub of-starts : AsExpected starts
   pub of-takes : AsExpected judgements

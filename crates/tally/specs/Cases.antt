@@ -4,17 +4,14 @@ use mathlib.Core.Bool.{Bool, true, false}
 use mathlib.Core.List.{List, [], _∷_, _++_}
 use Prim.Native.Nat.{ℕ}
 use lib.ListN.{replicate}
-use Rattle.declare.specs.declared.End.the-variants.{Never}
 use Rattle.declare.specs.declared.Standing.{Standing}
 use Rattle.declare.specs.declared.Standing.the-variants.{Idle, Open, Fulfilled, Violated}
 use Rattle.declare.specs.declared.Refusal.the-variants.{InvalidRecord, NotFound, WrongPhase, TallyOverflow}
 use Rattle.declare.specs.Refusals.{number}
-use Rattle.declare.specs.EdgeCycles.{always, window, rule, event}
-use Rattle.judge.specs.Cells.{idleCell}
 use Rattle.run.specs.declared.Run.{Run}
 use Rattle.run.specs.declared.Totals.{Totals}
 use Rattle.run.specs.Replies.{Reply, accepted, refused, refusedFor}
-use Rattle.run.specs.Cases.{Case, _is_, AsExpected, totals}
+use Rattle.run.specs.Cases.{Case, _is_, AsExpected, ofStandings, totals}
 use Rattle.tally.specs.declared.Tally.{Tally}
 use Rattle.tally.specs.declared.Answer.the-variants as Answer
 use Rattle.tally.specs.declared.CountedAnswer.the-variants as CountedAnswer
@@ -51,18 +48,10 @@ sums =
 
 -- ---- 11, 10, 9
 
--- a run of two rules and three events, with the standing s at position 3 under rule 2
+-- two rules, three events; the standing s at position 3 under rule 2
 abbrev pub run : Bool → Standing → Run
 run closed s =
-    record {
-      closed = closed;
-      table = record { count = 2; rules = rule 2 2 (window 0 Never) always ∷ rule 2 3 (window 0 Never) always ∷ [] };
-      count = 3;
-      events = event 0 1 ∷ event 0 1 ∷ event 0 1 ∷ [];
-      cells =
-          record { standing = Fulfilled 3 }
-          ∷ replicate 255 idleCell ++ (record { standing = Fulfilled 2 } ∷ record { standing = Violated 0 } ∷ record { standing = s } ∷ []);
-    }
+    ofStandings closed 2 3 (Fulfilled 3 ∷ replicate 255 Idle ++ (Fulfilled 2 ∷ Violated 0 ∷ s ∷ []))
 
 -- "tally: 11, 10, 9": an earlier cause is said before a later one
 unfoldable pub counts : List (Case (Reply Totals))
