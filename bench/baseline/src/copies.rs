@@ -12,7 +12,10 @@ pub struct Copies {
 
 impl Copies {
     pub fn of(bytes: usize) -> Copies {
-        Copies { bytes, buffers: vec![[0; SIZE]; bytes.div_ceil(SIZE) + 1] }
+        Copies {
+            bytes,
+            buffers: vec![[0; SIZE]; bytes.div_ceil(SIZE) + 1],
+        }
     }
 
     pub fn make(&mut self) {

@@ -1,11 +1,15 @@
-//! The inputs of the measurements, the same for both programs. src/main.rt of crate bench has the format.
+//! The inputs of the measurements, the same for both programs. src/main.rt of crate bench has the
+//! format.
 
 /// A small generator of numbers, so that the inputs are the same each time.
 struct Numbers(u64);
 
 impl Numbers {
     fn below(&mut self, n: u64) -> u64 {
-        self.0 = self.0.wrapping_mul(6364136223846793005).wrapping_add(1442695040888963407);
+        self.0 = self
+            .0
+            .wrapping_mul(6364136223846793005)
+            .wrapping_add(1442695040888963407);
         (self.0 >> 33) % n
     }
 }
@@ -14,7 +18,8 @@ fn line(fields: &[String]) -> String {
     fields.join("\t") + "\n"
 }
 
-/// 16 rules under which every event is an activation that stays open: the last of the comparisons never holds.
+/// 16 rules under which every event is an activation that stays open: the last of the comparisons
+/// never holds.
 fn worst_rules(comparisons: usize) -> String {
     let correlation = ["1=@1:1", "", "", "1=@1:0,2=@2:0,3=@3:0,4=@4:1"][comparisons - 1];
     format!("1\t1\t1\t0\t-\t-\t{correlation}\n").repeat(16)
@@ -48,7 +53,11 @@ fn condition(x: &mut Numbers, correlation: bool) -> String {
 fn rules(x: &mut Numbers, count: u64) -> String {
     let rule = |k: u64| {
         let from = x.below(3) * 100;
-        let until = if x.below(4) == 0 { "-".to_string() } else { (from + 200 + x.below(2000)).to_string() };
+        let until = if x.below(4) == 0 {
+            "-".to_string()
+        } else {
+            (from + 200 + x.below(2000)).to_string()
+        };
         let head = [k % 12 + 1, x.below(8) + 1, x.below(8) + 1, from].map(|v| v.to_string());
         let tail = [until, condition(x, false), condition(x, true)];
         line(&[&head[..], &tail[..]].concat())
@@ -76,12 +85,25 @@ fn cycle(x: &mut Numbers, events: u64) -> String {
 }
 
 fn blank_cycle(x: &mut Numbers) -> String {
-    (0..256).map(|p| format!("{}\t{}\t7\t-\t-\t-\n", p * 250, x.below(9) + 1)).collect()
+    (0..256)
+        .map(|p| format!("{}\t{}\t7\t-\t-\t-\n", p * 250, x.below(9) + 1))
+        .collect()
 }
 
 fn long_cycle(x: &mut Numbers) -> String {
     let mut long = || x.below(1 << 31) as i64 - (1 << 30);
-    (0..256u64).map(|p| format!("{}\t37\t{}\t{}\t{}\t{}\n", p * 5000000, long(), long(), long(), long())).collect()
+    (0..256u64)
+        .map(|p| {
+            format!(
+                "{}\t37\t{}\t{}\t{}\t{}\n",
+                p * 5000000,
+                long(),
+                long(),
+                long(),
+                long()
+            )
+        })
+        .collect()
 }
 
 /// 60 cycles of 10 to 50 events.
@@ -112,7 +134,11 @@ fn texts(name: &str) -> (String, Vec<String>) {
 /// The input that runs the workload `letter` on a data set, `turns` times.
 pub fn input(letter: &str, turns: &str, name: &str) -> String {
     let (rules, cycles) = texts(name);
-    let mut out = format!("{letter}\t{turns}\t{}\t{}\n{rules}", cycles.len(), rules.len());
+    let mut out = format!(
+        "{letter}\t{turns}\t{}\t{}\n{rules}",
+        cycles.len(),
+        rules.len()
+    );
     for c in &cycles {
         out += &format!("{}\n{c}", c.len());
     }

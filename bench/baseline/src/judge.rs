@@ -1,5 +1,5 @@
-//! The standings of a cycle's positions under its rules.
-//! The algorithm of the library: the rule is bound to the activation once, each of its tests is made a check, its reach is one interval, the
+//! The standings of a cycle's positions under its rules. The algorithm of the library: the rule is
+//! bound to the activation once, each of its tests is made a check, its reach is one interval, the
 //! first event that fits decides.
 use crate::types::*;
 
@@ -10,7 +10,8 @@ struct Test {
     against: Option<i64>,
 }
 
-/// What a test answers for a reading below, equal to or above the number that it is held against, and for a blank.
+/// What a test answers for a reading below, equal to or above the number that it is held against,
+/// and for a blank.
 #[derive(Clone, Copy)]
 struct Check {
     place: usize,
@@ -69,7 +70,11 @@ fn reference_of(a: &Event, reference: Reference) -> Option<i64> {
 }
 
 fn test_of(a: &Event, c: &Comparison) -> Test {
-    Test { reading: c.reading, operator: c.operator, against: reference_of(a, c.reference) }
+    Test {
+        reading: c.reading,
+        operator: c.operator,
+        against: reference_of(a, c.reference),
+    }
 }
 
 fn passes(e: &Event, t: &Test) -> bool {
@@ -80,12 +85,26 @@ fn check_of(t: &Test) -> Check {
     let blank = holds(t.operator, None, t.against);
     let place = (t.reading as usize).wrapping_sub(1);
     if place >= 4 {
-        return Check { place: 0, against: 0, below: blank, equal: blank, above: blank, blank };
+        return Check {
+            place: 0,
+            against: 0,
+            below: blank,
+            equal: blank,
+            above: blank,
+            blank,
+        };
     }
     match t.against {
         None => {
             let number = holds(t.operator, Some(0), None);
-            Check { place, against: 0, below: number, equal: number, above: number, blank }
+            Check {
+                place,
+                against: 0,
+                below: number,
+                equal: number,
+                above: number,
+                blank,
+            }
         }
         Some(against) => Check {
             place,
@@ -115,7 +134,12 @@ fn answers(c: &Check, e: &Event) -> bool {
 }
 
 fn is_activation(rule: &Rule, e: &Event) -> bool {
-    e.activity == rule.activation && rule.condition.used().iter().all(|c| passes(e, &test_of(e, c)))
+    e.activity == rule.activation
+        && rule
+            .condition
+            .used()
+            .iter()
+            .all(|c| passes(e, &test_of(e, c)))
 }
 
 fn within(window: &Window, d: u32) -> bool {
@@ -134,12 +158,16 @@ fn bound_of(rule: &Rule, a: &Event) -> Bound {
 }
 
 fn fits(b: &Bound, checks: &[Check], e: &Event) -> bool {
-    e.activity == b.target && within(&b.window, b.time.abs_diff(e.time)) && checks.iter().all(|c| answers(c, e))
+    e.activity == b.target
+        && within(&b.window, b.time.abs_diff(e.time))
+        && checks.iter().all(|c| answers(c, e))
 }
 
 fn meets(tests: &[Test], k: u8, v: Option<i64>) -> bool {
     v.map_or(true, |x| (-2147483648..=2147483647).contains(&x))
-        && tests.iter().all(|t| t.reading != k || holds(t.operator, v, t.against))
+        && tests
+            .iter()
+            .all(|t| t.reading != k || holds(t.operator, v, t.against))
 }
 
 fn edge(t: &Test) -> Option<i64> {
@@ -152,7 +180,9 @@ fn edge(t: &Test) -> Option<i64> {
 }
 
 fn some_meets(tests: &[Test], k: u8) -> bool {
-    meets(tests, k, None) || meets(tests, k, Some(-2147483648)) || tests.iter().any(|t| meets(tests, k, edge(t)))
+    meets(tests, k, None)
+        || meets(tests, k, Some(-2147483648))
+        || tests.iter().any(|t| meets(tests, k, edge(t)))
 }
 
 fn satisfiable(tests: &[Test]) -> bool {
@@ -171,12 +201,19 @@ fn can_suit(b: &Bound, horizon: u32) -> bool {
     has_room(&b.window, b.time, horizon) && satisfiable(b.tests())
 }
 
-/// The places from the first, up to but without the second; past the last event if one may still come.
+/// The places from the first, up to but without the second; past the last event if one may still
+/// come.
 fn span_of(code: u8, flags: &[bool], p: usize) -> (usize, usize) {
     let n = flags.len();
     match code {
         2 | 9 => (p, n + 1),
-        3 => (p + 1, flags[p + 1..].iter().position(|&f| f).map_or(n + 1, |d| p + d + 2)),
+        3 => (
+            p + 1,
+            flags[p + 1..]
+                .iter()
+                .position(|&f| f)
+                .map_or(n + 1, |d| p + d + 2),
+        ),
         4 | 11 => (p + 1, p + 2),
         5 | 10 => (0, p + 1),
         6 => (flags[..p].iter().rposition(|&f| f).unwrap_or(0), p),
@@ -194,7 +231,14 @@ fn decide(code: u8, target: u16) -> Standing {
     }
 }
 
-fn judge_activation(running: bool, rule: &Rule, events: &[Event], flags: &[bool], horizon: u32, p: usize) -> Standing {
+fn judge_activation(
+    running: bool,
+    rule: &Rule,
+    events: &[Event],
+    flags: &[bool],
+    horizon: u32,
+    p: usize,
+) -> Standing {
     let n = events.len();
     let (start, stop) = span_of(rule.code, flags, p);
     let bound = bound_of(rule, &events[p]);
@@ -210,7 +254,13 @@ fn judge_activation(running: bool, rule: &Rule, events: &[Event], flags: &[bool]
 }
 
 /// The rows of the rules: a decided standing is carried over, any other follows from the events.
-pub fn judge_cells(running: bool, rules: &[Rule], events: &[Event], horizon: u32, cells: &mut [Standing; 4096]) {
+pub fn judge_cells(
+    running: bool,
+    rules: &[Rule],
+    events: &[Event],
+    horizon: u32,
+    cells: &mut [Standing; 4096],
+) {
     let mut flags = [false; 256];
     let flags = &mut flags[..events.len()];
     for (rule, row) in rules.iter().zip(cells.chunks_exact_mut(256)) {
@@ -219,7 +269,11 @@ pub fn judge_cells(running: bool, rules: &[Rule], events: &[Event], horizon: u32
         }
         for (p, c) in row[..events.len()].iter_mut().enumerate() {
             if !matches!(c, Standing::Fulfilled(_) | Standing::Violated(_)) {
-                *c = if flags[p] { judge_activation(running, rule, events, flags, horizon, p) } else { Standing::Idle };
+                *c = if flags[p] {
+                    judge_activation(running, rule, events, flags, horizon, p)
+                } else {
+                    Standing::Idle
+                };
             }
         }
     }

@@ -1,7 +1,9 @@
-//! The measured workloads in plain Rust: the algorithm of the library, over references, with the same checks.
+//! The measured workloads in plain Rust: the algorithm of the library, over references, with the
+//! same checks.
 //!
-//! `baseline < INPUT` runs an input; `baseline data LETTER TURNS NAME` writes one; `baseline count NAME` says its rule-events.
-//! `baseline copying BYTES < INPUT` copies so many bytes before each call of a running cycle, and else does the same.
+//! `baseline < INPUT` runs an input; `baseline data LETTER TURNS NAME` writes one;
+//! `baseline count NAME` says its rule-events. `baseline copying BYTES < INPUT` copies so many bytes
+//! before each call of a running cycle, and else does the same.
 mod copies;
 mod data;
 mod judge;
@@ -32,12 +34,17 @@ fn of_run(run: &Run) -> u64 {
 }
 
 fn of_cells(run: &Run) -> u64 {
-    run.cells.iter().fold(0, |sum, &s| joined(sum, of_standing(s)))
+    run.cells
+        .iter()
+        .fold(0, |sum, &s| joined(sum, of_standing(s)))
 }
 
 fn of_totals(t: Totals) -> u64 {
     black_box(t.violated);
-    joined(joined(t.activations as u64, t.fulfilled as u64), t.open as u64)
+    joined(
+        joined(t.activations as u64, t.fulfilled as u64),
+        t.open as u64,
+    )
 }
 
 fn of_answer(a: Result<(), Cause>) -> u64 {
@@ -72,18 +79,29 @@ fn judged(table: &Table, events: &[Event]) -> Run {
     run.count = events.len();
     run.events[..events.len()].copy_from_slice(events);
     let horizon = events.last().map_or(0, |e| e.time);
-    judge::judge_cells(true, &table.rules[..table.count], events, horizon, &mut run.cells);
+    judge::judge_cells(
+        true,
+        &table.rules[..table.count],
+        events,
+        horizon,
+        &mut run.cells,
+    );
     run
 }
 
-/// Each turn begins with a copy of the run, so that the same event can be taken again; `k` makes the copy only.
+/// Each turn begins with a copy of the run, so that the same event can be taken again; `k` makes
+/// the copy only.
 fn takes(letter: u8, run: &Run, event: Event, turns: usize, copies: &mut Copies) -> u64 {
     let mut sum = 0;
     for _ in 0..turns {
         copies.make();
         let mut next = *black_box(run);
         if letter != b'k' {
-            let answer = if letter == b't' { next.take(event) } else { next.close() };
+            let answer = if letter == b't' {
+                next.take(event)
+            } else {
+                next.close()
+            };
             sum = joined(sum, of_answer(answer));
         }
         sum = joined(sum, of_run(black_box(&next)));
@@ -108,7 +126,9 @@ fn asked(letter: u8, run: &Run, turns: usize, copies: &mut Copies) -> u64 {
         copies.make();
         let run = black_box(run);
         let x = match letter {
-            b's' => run.standing(i % 16 + 1, i % 256 + 1).map_or_else(u64::from, of_standing),
+            b's' => run
+                .standing(i % 16 + 1, i % 256 + 1)
+                .map_or_else(u64::from, of_standing),
             _ => run.totals(i % 16 + 1).map_or_else(u64::from, of_totals),
         };
         sum = joined(sum, x);
@@ -131,7 +151,14 @@ fn notebooks(letter: u8, rules: &[u8], cycles: &[&[u8]], turns: usize) -> u64 {
         let mut all = 0;
         for cycle in cycles {
             let run = text::read_notebook(black_box(rules), cycle).unwrap();
-            all = joined(all, if letter == b'n' { of_run(&run) } else { of_cells(&run) });
+            all = joined(
+                all,
+                if letter == b'n' {
+                    of_run(&run)
+                } else {
+                    of_cells(&run)
+                },
+            );
         }
         sum = joined(sum, all);
     }
@@ -166,7 +193,13 @@ fn work(text: &[u8], bytes_copied: usize) -> u64 {
     match letter {
         b'r' => readings(cycles[0], turns),
         b'n' | b'v' => notebooks(letter, rules, &cycles, turns),
-        _ => cycle_calls(letter, turns, rules, cycles[0], &mut Copies::of(bytes_copied)),
+        _ => cycle_calls(
+            letter,
+            turns,
+            rules,
+            cycles[0],
+            &mut Copies::of(bytes_copied),
+        ),
     }
 }
 

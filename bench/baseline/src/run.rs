@@ -58,14 +58,21 @@ fn valid_standing(closed: bool, count: usize, s: Standing) -> bool {
 }
 
 fn valid_row(closed: bool, count: usize, row: &[Standing]) -> bool {
-    row[..count].iter().all(|&s| valid_standing(closed, count, s)) && row[count..].iter().all(|&s| s == Standing::Idle)
+    row[..count]
+        .iter()
+        .all(|&s| valid_standing(closed, count, s))
+        && row[count..].iter().all(|&s| s == Standing::Idle)
 }
 
 fn valid_run(run: &Run) -> bool {
     valid_table(&run.table)
         && run.count <= 256
         && valid_events(&run.events[..run.count])
-        && run.cells.chunks_exact(256).take(run.table.count).all(|row| valid_row(run.closed, run.count, row))
+        && run
+            .cells
+            .chunks_exact(256)
+            .take(run.table.count)
+            .all(|row| valid_row(run.closed, run.count, row))
 }
 
 impl Run {
@@ -73,7 +80,13 @@ impl Run {
         if !valid_table(&table) {
             return Err(11);
         }
-        Ok(Run { closed: false, table, count: 0, events: [SLOT; 256], cells: [Standing::Idle; 4096] })
+        Ok(Run {
+            closed: false,
+            table,
+            count: 0,
+            events: [SLOT; 256],
+            cells: [Standing::Idle; 4096],
+        })
     }
 
     #[inline(never)]
@@ -97,7 +110,13 @@ impl Run {
         self.events[n] = event;
         self.count = n + 1;
         let rules = &self.table.rules[..self.table.count];
-        judge_cells(true, rules, &self.events[..n + 1], event.time, &mut self.cells);
+        judge_cells(
+            true,
+            rules,
+            &self.events[..n + 1],
+            event.time,
+            &mut self.cells,
+        );
         Ok(())
     }
 
@@ -111,8 +130,15 @@ impl Run {
         }
         let rules = &self.table.rules[..self.table.count];
         for (rule, row) in rules.iter().zip(self.cells.chunks_exact_mut(256)) {
-            let closing = if rule.code >= 8 { Standing::Fulfilled(0) } else { Standing::Violated(0) };
-            for c in row[..self.count].iter_mut().filter(|c| **c == Standing::Open) {
+            let closing = if rule.code >= 8 {
+                Standing::Fulfilled(0)
+            } else {
+                Standing::Violated(0)
+            };
+            for c in row[..self.count]
+                .iter_mut()
+                .filter(|c| **c == Standing::Open)
+            {
                 *c = closing;
             }
         }
@@ -139,7 +165,12 @@ impl Run {
         if !(1..=self.table.count).contains(&rule) {
             return Err(10);
         }
-        let mut t = Totals { activations: 0, fulfilled: 0, violated: 0, open: 0 };
+        let mut t = Totals {
+            activations: 0,
+            fulfilled: 0,
+            violated: 0,
+            open: 0,
+        };
         for s in &self.cells[(rule - 1) * 256..][..self.count] {
             t.activations += (*s != Standing::Idle) as u16;
             t.fulfilled += matches!(s, Standing::Fulfilled(_)) as u16;

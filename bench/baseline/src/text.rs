@@ -98,7 +98,11 @@ fn event(line: &[u8]) -> Result<Event, Cause> {
     for x in &mut readings {
         *x = reading(line, &mut i)?;
     }
-    Ok(Event { time, activity, readings })
+    Ok(Event {
+        time,
+        activity,
+        readings,
+    })
 }
 
 pub struct Cycle {
@@ -109,7 +113,10 @@ pub struct Cycle {
 /// The events, or the cause and the line.
 #[inline(never)]
 pub fn read_cycle(text: &[u8]) -> Result<Cycle, (Cause, usize)> {
-    let mut cycle = Cycle { count: 0, events: [SLOT; 256] };
+    let mut cycle = Cycle {
+        count: 0,
+        events: [SLOT; 256],
+    };
     let mut last = 0;
     let mut rest = text;
     while !rest.is_empty() {
@@ -192,7 +199,11 @@ fn condition(f: &[u8], correlation: bool) -> Result<Condition, Cause> {
         if c.used().iter().any(|x| x.reading == reading) {
             return Err(5);
         }
-        c.comparisons[c.count as usize] = Comparison { reading, operator, reference };
+        c.comparisons[c.count as usize] = Comparison {
+            reading,
+            operator,
+            reference,
+        };
         c.count += 1;
     }
     Ok(c)
@@ -205,7 +216,10 @@ fn window(line: &[u8], i: &mut usize) -> Result<Window, Cause> {
         return Ok(Window { from, until: None });
     }
     let until = natural(line, i, 1, 4294967295)? as u32;
-    Ok(Window { from, until: Some(until) })
+    Ok(Window {
+        from,
+        until: Some(until),
+    })
 }
 
 fn rule(line: &[u8]) -> Result<Rule, Cause> {
@@ -221,13 +235,23 @@ fn rule(line: &[u8]) -> Result<Rule, Cause> {
     if window.until.is_some_and(|b| window.from >= b) {
         return Err(6);
     }
-    Ok(Rule { code, activation, target, window, condition: condition_field, correlation })
+    Ok(Rule {
+        code,
+        activation,
+        target,
+        window,
+        condition: condition_field,
+        correlation,
+    })
 }
 
 /// The table, or the cause and the line.
 #[inline(never)]
 pub fn read_rules(text: &[u8]) -> Result<Table, (Cause, usize)> {
-    let mut table = Table { count: 0, rules: [NO_RULE; 16] };
+    let mut table = Table {
+        count: 0,
+        rules: [NO_RULE; 16],
+    };
     let mut rest = text;
     while !rest.is_empty() {
         let number = table.count + 1;
@@ -249,6 +273,18 @@ pub fn read_notebook(rules: &[u8], cycle: &[u8]) -> Result<Run, (Cause, usize)> 
     let table = read_rules(rules)?;
     let read = read_cycle(cycle)?;
     let mut cells = [Standing::Idle; 4096];
-    judge_cells(false, &table.rules[..table.count], &read.events[..read.count], 0, &mut cells);
-    Ok(Run { closed: true, table, count: read.count, events: read.events, cells })
+    judge_cells(
+        false,
+        &table.rules[..table.count],
+        &read.events[..read.count],
+        0,
+        &mut cells,
+    );
+    Ok(Run {
+        closed: true,
+        table,
+        count: read.count,
+        events: read.events,
+        cells,
+    })
 }

@@ -92,18 +92,31 @@ pub struct Run {
     pub cells: [Standing; 4096],
 }
 
-pub const SLOT: Event = Event { time: 0, activity: 1, readings: [Reading::Blank; 4] };
+pub const SLOT: Event = Event {
+    time: 0,
+    activity: 1,
+    readings: [Reading::Blank; 4],
+};
 
-const NO_COMPARISON: Comparison =
-    Comparison { reading: 0, operator: Operator::Equal, reference: Reference::Constant(0) };
+const NO_COMPARISON: Comparison = Comparison {
+    reading: 0,
+    operator: Operator::Equal,
+    reference: Reference::Constant(0),
+};
 
-pub const NO_CONDITION: Condition = Condition { count: 0, comparisons: [NO_COMPARISON; 4] };
+pub const NO_CONDITION: Condition = Condition {
+    count: 0,
+    comparisons: [NO_COMPARISON; 4],
+};
 
 pub const NO_RULE: Rule = Rule {
     code: 0,
     activation: 0,
     target: 0,
-    window: Window { from: 0, until: None },
+    window: Window {
+        from: 0,
+        until: None,
+    },
     condition: NO_CONDITION,
     correlation: NO_CONDITION,
 };

@@ -1,18 +1,19 @@
 // The calls of a running cycle.
 use crate::weight;
+use declare::EVENTS;
 use declare::Event;
-use declare::Standing;
+use declare::RULES;
 use declare::Table;
-use judge::Cell;
+use declare::numbers::less_one;
 use judge::cells::judge_cells;
 use run::Run;
 
 // The run of a table that has taken the first n events.
-fn taken(table: Table, events: [Event; 256], n: usize) -> Run {
+fn taken(table: Table, events: [Event; EVENTS], n: usize) -> Run {
     let step = Run::start(table);
     let mut run = step.run;
     for p in 0..n {
-        if 256 <= p {
+        if EVENTS <= p {
             return run;
         }
         let event = events[p];
@@ -23,29 +24,24 @@ fn taken(table: Table, events: [Event; 256], n: usize) -> Run {
 }
 
 // The same run, judged at once.
-fn judged(table: Table, events: [Event; 256], n: usize) -> Run {
-    let idle = Cell {
-        standing: Standing::Idle,
-    };
-    let cells = [idle; 4096];
-    let rules = table.rules;
+fn judged(table: Table, events: [Event; EVENTS], n: usize) -> Run {
+    let step = Run::start(table);
+    let mut run = step.run;
     let last = event_at(events, less_one(n));
-    let standings = judge_cells(true, rules, table.count, events, n, last.time, cells);
-    Run {
-        closed: false,
-        table: table,
-        count: n,
-        events: events,
-        cells: standings,
-    }
+    let cells = run.cells;
+    let standings = judge_cells(true, table, events, n, last.time, cells);
+    run.count = n;
+    run.events = events;
+    run.cells = standings;
+    run
 }
 
 fn takes(run: Run, event: Event, turns: usize) -> u64 {
     let mut sum: u64 = 0;
     for i in 0..turns {
         let step = run.take(event);
-        let a = step.answer;
-        sum = weight::joined(sum, weight::of_answer(a));
+        let outcome = step.outcome;
+        sum = weight::joined(sum, weight::of_outcome(outcome));
         sum = weight::joined(sum, weight::of_run(step.run));
     }
     sum
@@ -55,14 +51,14 @@ fn closes(run: Run, turns: usize) -> u64 {
     let mut sum: u64 = 0;
     for i in 0..turns {
         let step = run.close();
-        let a = step.answer;
-        sum = weight::joined(sum, weight::of_answer(a));
+        let outcome = step.outcome;
+        sum = weight::joined(sum, weight::of_outcome(outcome));
         sum = weight::joined(sum, weight::of_run(step.run));
     }
     sum
 }
 
-fn cycles(table: Table, events: [Event; 256], n: usize, turns: usize) -> u64 {
+fn cycles(table: Table, events: [Event; EVENTS], n: usize, turns: usize) -> u64 {
     let mut sum: u64 = 0;
     for i in 0..turns {
         let run = taken(table, events, n);
@@ -77,7 +73,7 @@ fn cycles(table: Table, events: [Event; 256], n: usize, turns: usize) -> u64 {
 fn standings(run: Run, turns: usize) -> u64 {
     let mut sum: u64 = 0;
     for i in 0..turns {
-        let a = run.standing(i % 16 + 1, i % 256 + 1);
+        let a = run.standing(i % RULES + 1, i % EVENTS + 1);
         sum = weight::joined(sum, weight::of_asked(a));
     }
     sum
@@ -86,18 +82,14 @@ fn standings(run: Run, turns: usize) -> u64 {
 fn totals(run: Run, turns: usize) -> u64 {
     let mut sum: u64 = 0;
     for i in 0..turns {
-        let a = run.totals(i % 16 + 1);
+        let a = run.totals(i % RULES + 1);
         sum = weight::joined(sum, weight::of_totals(a));
     }
     sum
 }
 
-fn less_one(x: usize) -> usize {
-    if 0 < x { x - 1 } else { 0 }
-}
-
-fn event_at(events: [Event; 256], p: usize) -> Event {
-    if p < 256 { events[p] } else { events[0] }
+fn event_at(events: [Event; EVENTS], p: usize) -> Event {
+    if p < EVENTS { events[p] } else { events[0] }
 }
 
 pub fn measured(letter: u8, turns: usize, rules: &[u8], cycle: &[u8]) -> u64 {

@@ -1,4 +1,5 @@
 // The parts of the input.
+use declare::LATEST;
 use line::NumberAnswer;
 
 fn wide(x: u32) -> usize {
@@ -7,7 +8,7 @@ fn wide(x: u32) -> usize {
 
 // The number before the first `end`, or 0.
 pub fn number(part: &[u8], end: u8) -> usize {
-    let field = line::number_field(part, end, 0, 4294967295);
+    let field = line::number_field(part, end, 0, LATEST);
     let answer = field.answer;
     match answer {
         NumberAnswer::Number(value) => wide(value),

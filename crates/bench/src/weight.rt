@@ -1,10 +1,11 @@
 // Answers made numbers, so that none of them is left out by the compiler.
 use declare::Standing;
-use judge::Cell;
-use run::Answer;
+use run::Outcome;
 use run::Run;
 use run::StandingAnswer;
 use run::TotalsAnswer;
+use standings::Cell;
+use standings::PLACES;
 
 fn wide(x: u16) -> u64 {
     x as u64
@@ -27,10 +28,10 @@ pub fn of_standing(s: Standing) -> u64 {
     }
 }
 
-pub fn of_answer(a: Answer) -> u64 {
-    match a {
-        Answer::Done => 0,
-        Answer::Refused(refusal) => of_byte(declare::number_of(refusal)),
+pub fn of_outcome(outcome: Outcome) -> u64 {
+    match outcome {
+        Outcome::Done => 0,
+        Outcome::Refused(refusal) => of_byte(declare::number_of(refusal)),
     }
 }
 
@@ -64,9 +65,9 @@ pub fn of_run(run: Run) -> u64 {
 }
 
 // Every cell.
-pub fn of_cells(cells: [Cell; 4096]) -> u64 {
+pub fn of_cells(cells: [Cell; PLACES]) -> u64 {
     let mut sum: u64 = 0;
-    for j in 0..4096 {
+    for j in 0..PLACES {
         let c = cells[j];
         let s = c.standing;
         sum = joined(sum, of_standing(s));

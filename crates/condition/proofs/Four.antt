@@ -1,6 +1,7 @@
--- Up to four tests, one after the other: what is known of them all where a function that tries them in order returns.
-use mathlib.Core.Path.{_≡_, refl, sym, ap, _∙_}
-use mathlib.Core.Bool.{Bool, true, false, not, cond, _&&_, _||_, and-true, and-false}
+-- Up to four tests, tried one after the other: what all of them say is what those say that are
+-- left.
+use mathlib.Core.Path.{_≡_, refl, sym, _∙_}
+use mathlib.Core.Bool.{Bool, true, false, not, cond, _&&_, _||_, and-true}
 use mathlib.Core.List.{List, [], _∷_, map}
 use Prim.Native.Nat.{ℕ, zero, suc, _<_, _≤_}
 use native.Mathlib.Omega.{arith}
@@ -19,66 +20,67 @@ passed {r} e n = sym e ∙ not-false r n
 pub failed : {r p : Bool} → r ≡ p → not r ≡ true → p ≡ false
 failed {r} e n = sym e ∙ not-true r n
 
--- past the count a test is not asked
-or-past : (past : Bool) {b : Bool} → b ≡ true → cond past true b ≡ true
-or-past true e = refl
-or-past false e = e
-
-all-four {ℓ} : {A : Type ℓ} (p : A → Bool) (n : ℕ) (x y z w : A) →
-    all p (take n (x ∷ y ∷ z ∷ w ∷ []))
-    ≡ cond (ltb n 1) true (p x && cond (ltb n 2) true (p y && cond (ltb n 3) true (p z && cond (ltb n 4) true (p w))))
-unfolding all
-all-four p zero x y z w = refl
-all-four p (suc zero) x y z w = refl
-all-four p (suc (suc zero)) x y z w = refl
-all-four p (suc (suc (suc zero))) x y z w = refl
-all-four p (suc (suc (suc (suc zero)))) x y z w = ap (λ t. p x && (p y && (p z && t))) (and-true (p w))
-all-four p (suc (suc (suc (suc (suc k))))) x y z w =
-    let n : ℕ = suc (suc (suc (suc (suc k)))) in
-    rw (le-ltb n 1 (omega arith), le-ltb n 2 (omega arith), le-ltb n 3 (omega arith), le-ltb n 4 (omega arith))
-    (ap (λ t. p x && (p y && (p z && t))) (and-true (p w)))
-
 pub no-tests : (ts : Tests) → ts .count < 1 → testList ts ≡ []
 unfolding testList
 no-tests ts n = let e : ts .count ≡ 0 = omega arith in rw e
 
--- what all tests say, by the last that was tried
+-- x is what all n tests say: the k-th says b, if there is one, and those after it say y
+pub record Left (n k : ℕ) (x b y : Bool) : Type 0 where
+  pub says : x ≡ cond (ltb n k) true (b && y)
+
 module _ (p : Test → Bool) (ts : Tests) where
-  each :
-      all p (testList ts)
-      ≡ cond (ltb (ts .count) 1) true (p (ts .first)
-      && cond (ltb (ts .count) 2) true (p (ts .second)
-      && cond (ltb (ts .count) 3) true (p (ts .third)
-      && cond (ltb (ts .count) 4) true (p (ts .fourth)))))
-  unfolding testList
-  each = all-four p (ts .count) (ts .first) (ts .second) (ts .third) (ts .fourth)
+  abbrev fourth-on : Bool
+  fourth-on = cond (ltb (ts .count) 4) true (p (ts .fourth) && true)
 
-  pub none : ts .count < 1 → true ≡ all p (testList ts)
-  none n = sym (each ∙ rw (lt-ltb (ts .count) 1 n))
+  abbrev third-on : Bool
+  third-on = cond (ltb (ts .count) 3) true (p (ts .third) && fourth-on)
 
-  pub not-first : 1 ≤ ts .count → p (ts .first) ≡ false → false ≡ all p (testList ts)
-  not-first n f = sym (each ∙ rw (le-ltb (ts .count) 1 n, f))
+  abbrev second-on : Bool
+  second-on = cond (ltb (ts .count) 2) true (p (ts .second) && third-on)
 
-  pub one : ts .count < 2 → p (ts .first) ≡ true → true ≡ all p (testList ts)
-  one n a = sym (each ∙ rw (a, lt-ltb (ts .count) 2 n) (or-past (ltb (ts .count) 1) refl))
+  -- the first, the second, .. and those after it are left
+  abbrev pub First : Type 0
+  First = Left (ts .count) 1 (all p (testList ts)) (p (ts .first)) second-on
 
-  pub not-second : 2 ≤ ts .count → p (ts .second) ≡ false → false ≡ all p (testList ts)
-  not-second n f = sym (each ∙ rw (le-ltb (ts .count) 1 (omega arith), le-ltb (ts .count) 2 n, f) (and-false (p (ts .first))))
+  abbrev pub Second : Type 0
+  Second = Left (ts .count) 2 (all p (testList ts)) (p (ts .second)) third-on
 
-  pub two : ts .count < 3 → p (ts .first) ≡ true → p (ts .second) ≡ true → true ≡ all p (testList ts)
-  two n a b = sym (each ∙ rw (a, b, lt-ltb (ts .count) 3 n) (or-past (ltb (ts .count) 1) (or-past (ltb (ts .count) 2) refl)))
+  abbrev pub Third : Type 0
+  Third = Left (ts .count) 3 (all p (testList ts)) (p (ts .third)) fourth-on
 
-  pub not-third : 3 ≤ ts .count → p (ts .third) ≡ false → false ≡ all p (testList ts)
-  not-third n f =
-      sym (each ∙ rw (le-ltb (ts .count) 1 (omega arith), le-ltb (ts .count) 2 (omega arith), le-ltb (ts .count) 3 n, f, and-false (p (ts .second))) (and-false (p (ts .first))))
+  abbrev pub Fourth : Type 0
+  Fourth = Left (ts .count) 4 (all p (testList ts)) (p (ts .fourth)) true
 
-  pub three : ts .count < 4 → p (ts .first) ≡ true → p (ts .second) ≡ true → p (ts .third) ≡ true → true ≡ all p (testList ts)
-  three n a b c =
-      sym (each ∙ rw (a, b, c, lt-ltb (ts .count) 4 n) (or-past (ltb (ts .count) 1) (or-past (ltb (ts .count) 2) (or-past (ltb (ts .count) 3) refl))))
+  pub untried : First
+  unfolding testList all
+  untried = record { says = go (ts .count) }
+    where
+      go : (n : ℕ) → all p (take n (ts .first ∷ ts .second ∷ ts .third ∷ ts .fourth ∷ [])) ≡ cond (ltb n 1) true (p (ts .first) && cond (ltb n 2) true (p (ts .second) && cond (ltb n 3) true (p (ts .third) && cond (ltb n 4) true (p (ts .fourth) && true))))
+      go zero = refl
+      go (suc zero) = refl
+      go (suc (suc zero)) = refl
+      go (suc (suc (suc zero))) = refl
+      go (suc (suc (suc (suc zero)))) = refl
+      go (suc (suc (suc (suc (suc k))))) =
+          let n : ℕ = suc (suc (suc (suc (suc k)))) in
+          rw (le-ltb n 1 (omega arith), le-ltb n 2 (omega arith), le-ltb n 3 (omega arith), le-ltb n 4 (omega arith))
 
-  pub last : 4 ≤ ts .count → p (ts .first) ≡ true → p (ts .second) ≡ true → p (ts .third) ≡ true → p (ts .fourth) ≡ all p (testList ts)
-  last n a b c =
-      sym (each ∙ rw (le-ltb (ts .count) 1 (omega arith), le-ltb (ts .count) 2 (omega arith), le-ltb (ts .count) 3 (omega arith), le-ltb (ts .count) 4 n, a, b, c))
+module _ {n k : ℕ} {x b y : Bool} (left : Left n k x b y) where
+  pub ended : n < k → true ≡ x
+  ended l = sym (left .says ∙ rw (lt-ltb n k l))
+
+  next : k ≤ n → x ≡ (b && y)
+  next l = left .says ∙ rw (le-ltb n k l)
+
+  pub lost : k ≤ n → b ≡ false → false ≡ x
+  lost l f = sym (next l ∙ rw f)
+
+-- the k-th has passed
+pub kept : {n k m : ℕ} {x b c z : Bool} → Left n k x b (cond (ltb n m) true (c && z)) → k ≤ n → b ≡ true → Left n m x c z
+kept left l t = record { says = next left l ∙ rw t }
+
+pub last : {n k : ℕ} {x b : Bool} → Left n k x b true → k ≤ n → b ≡ x
+last {b = b} left l = sym (next left l ∙ and-true b)
 
 -- some passes where not all fail
 pub any-all {ℓ} : {A B : Type ℓ} (p : B → Bool) (f : A → B) (xs : List A) → any p (map f xs) ≡ not (all (λ x. not (p (f x))) xs)

@@ -13,7 +13,7 @@ use Rattle.declare.specs.Comparisons.{testOf, passes}
 use Rattle.declare.specs.Conditions.{comparisonsOf, testsOf, met}
 use Rattle.declare.specs.Suits.{within, between, correlates, suits}
 use Rattle.declare.specs.Reachability.{satisfiable, hasRoom}
-use Rattle.condition.specs.Bound.{testList, testsFor, boundOf, fitsOf, canSuitOf}
+use Rattle.condition.specs.Bound.{testList, testsFor, boundOf, suitsBound, canSuitBound}
 
 take-map {ℓ} : {A B : Type ℓ} (f : A → B) (n : ℕ) (xs : List A) → take n (map f xs) ≡ map f (take n xs)
 take-map f zero xs = refl
@@ -21,7 +21,7 @@ take-map f (suc n) [] = refl
 take-map f (suc n) (x ∷ xs) = ap (λ ys. f x ∷ ys) (take-map f n xs)
 
 -- the tests of a condition, made once
-pub tests-bound : (a : Event) (c : Condition) → testList (testsFor a c) ≡ testsOf a c
+tests-bound : (a : Event) (c : Condition) → testList (testsFor a c) ≡ testsOf a c
 unfolding testList testsFor testsOf comparisonsOf
 tests-bound a c = take-map (testOf a) (c .count) (c .first ∷ c .second ∷ c .third ∷ c .fourth ∷ [])
 
@@ -34,14 +34,14 @@ met-bound c a e = ap (all (passes e)) (tests-bound a c)
 last-two : (x y z : Bool) → (x && y && z) ≡ (x && z && y)
 last-two x y z = and-assoc x y z ∙ ap (λ t. x && t) (and-comm y z) ∙ sym (and-assoc x z y)
 
--- an event fits the bound rule exactly where it suits the activation
-pub fits-suits : (r : Rule) (a e : Event) → fitsOf (boundOf r a) e ≡ suits r a e
-unfolding fitsOf boundOf suits correlates met
-fits-suits r a e =
+-- the bound rule is suited exactly where the rule is
+pub bound-suits : (r : Rule) (a e : Event) → suitsBound (boundOf r a) e ≡ suits r a e
+unfolding suitsBound boundOf suits correlates met
+bound-suits r a e =
     rw (tests-bound a (r .correlation))
     (last-two (eqb (e .activity) (r .target)) (within (r .window) (between (a .time) (e .time))) (met (r .correlation) a e))
 
--- and one may still fit exactly where one may still suit
-pub can-suit : (r : Rule) (a : Event) (h : ℕ) → canSuitOf (boundOf r a) h ≡ (hasRoom (r .window) (a .time) h && satisfiable (testsOf a (r .correlation)))
-unfolding canSuitOf boundOf
-can-suit r a h = rw (tests-bound a (r .correlation))
+-- and may still be suited exactly where the rule may
+pub bound-can-suit : (r : Rule) (a : Event) (h : ℕ) → canSuitBound (boundOf r a) h ≡ (hasRoom (r .window) (a .time) h && satisfiable (testsOf a (r .correlation)))
+unfolding canSuitBound boundOf
+bound-can-suit r a h = rw (tests-bound a (r .correlation))

@@ -10,6 +10,7 @@ use lib.Dec.{ltb}
 use mir.Syntax.{w32, w64}
 use mir.Val.{SFits, toZ, ofZ}
 use mir.Facts.{sfits-widen, toZ-ofZ}
+use Rattle.declare.specs.Events.{greatest}
 
 -- a cast reads the number from its 32 bits and writes it at 64
 module _ {z : ℤ} (fits : SFits w32 z) where
@@ -37,7 +38,8 @@ pub sum-fits : (x y : ℤ) → SFits w32 x → SFits w32 y → SFits w64 (x +ℤ
 sum-fits x y f g = record { sfits = omega (arith, mag-sum x y, f .sfits, g .sfits) }
 
 -- and so is the number after one that is below the end of a reading's range
-pub after-fits : (y : ℤ) → SFits w64 y → ltZ y (pos 2147483647) ≡ true → SFits w64 (y +ℤ pos 1)
+pub after-fits : (y : ℤ) → SFits w64 y → ltZ y greatest ≡ true → SFits w64 (y +ℤ pos 1)
+unfolding greatest
 after-fits (pos a) f h = record { sfits = omega (arith, ltb-true a 2147483647 h) }
 after-fits (negsuc zero) f h = record { sfits = omega arith }
 after-fits (negsuc (suc a)) f h = rw (+ℤ-one (negsuc (suc a))) (record { sfits = omega (arith, f .sfits) })

@@ -29,10 +29,10 @@ unfoldable pub boundOf : Rule → Event → Bound
 boundOf r a = record { target = r .target; time = a .time; window = r .window; tests = testsFor a (r .correlation) }
 
 -- e suits the activation that the rule is bound to
-unfoldable pub fitsOf : Bound → Event → Bool
-fitsOf b e =
+unfoldable pub suitsBound : Bound → Event → Bool
+suitsBound b e =
     eqb (e .activity) (b .target) && within (b .window) (between (b .time) (e .time)) && all (passes e) (testList (b .tests))
 
 -- an event no earlier than h may suit the activation that the rule is bound to
-unfoldable pub canSuitOf : Bound → ℕ → Bool
-canSuitOf b h = hasRoom (b .window) (b .time) h && satisfiable (testList (b .tests))
+unfoldable pub canSuitBound : Bound → ℕ → Bool
+canSuitBound b h = hasRoom (b .window) (b .time) h && satisfiable (testList (b .tests))

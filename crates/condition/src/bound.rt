@@ -1,13 +1,8 @@
-// A rule bound to one activation: its references made numbers once, for every event that is then tried.
+// A rule bound to one activation: its references made numbers once, for every event that is then
+// tried.
 ghost use mathlib.Core.Path.{_≡_};
-ghost use Rattle.declare.specs.Lists.{all};
-ghost use Rattle.declare.specs.Comparisons.{passes};
-ghost use Rattle.declare.specs.Suits.{suits};
-ghost use Rattle.condition.specs.Bound.{testList, testsFor, boundOf, fitsOf};
-use crate::comparison::passes;
+ghost use Rattle.condition.specs.Bound.{testsFor, boundOf};
 use crate::comparison::test_of;
-use crate::window::between;
-use crate::window::within;
 use declare::Condition;
 use declare::Event;
 use declare::Rule;
@@ -60,53 +55,4 @@ pub fn bound_of(rule: Rule, a: Event) -> Bound
         window: window,
         tests: tests,
     }
-}
-
-// Whether e passes the tests: up to the first that it does not pass.
-fn all_pass(e: Event, tests: Tests) -> bool
-    ensures { λ r. ⌜ r ≡ all (passes e) (testList tests) ⌝ }
-{
-    let count = tests.count;
-    if count < 1 {
-        return true;
-    }
-    if !passes(e, tests.first) {
-        return false;
-    }
-    if count < 2 {
-        return true;
-    }
-    if !passes(e, tests.second) {
-        return false;
-    }
-    if count < 3 {
-        return true;
-    }
-    if !passes(e, tests.third) {
-        return false;
-    }
-    if count < 4 {
-        return true;
-    }
-    passes(e, tests.fourth)
-}
-
-// Whether e suits the activation that the rule is bound to; what costs least is tried first.
-pub fn fits(bound: Bound, e: Event) -> bool
-    ensures { λ r. ⌜ r ≡ fitsOf bound e ⌝ }
-{
-    if e.activity != bound.target {
-        return false;
-    }
-    if !within(bound.window, between(bound.time, e.time)) {
-        return false;
-    }
-    all_pass(e, bound.tests)
-}
-
-// Whether e suits the activation a.
-pub fn suits(rule: Rule, a: Event, e: Event) -> bool
-    ensures { λ r. ⌜ r ≡ suits rule a e ⌝ }
-{
-    fits(bound_of(rule, a), e)
 }

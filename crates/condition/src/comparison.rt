@@ -11,7 +11,7 @@ use declare::Reference;
 use declare::Test;
 
 // Reading 1 to 4 of an event; there is no other.
-pub fn reading_of(e: Event, k: u8) -> Reading
+fn reading_of(e: Event, k: u8) -> Reading
     ensures { λ r. ⌜ r ≡ readingOf e k ⌝ }
 {
     match k {
@@ -24,7 +24,7 @@ pub fn reading_of(e: Event, k: u8) -> Reading
 }
 
 // A reading as one side of a comparison.
-pub fn operand_of(x: Reading) -> Operand
+fn operand_of(x: Reading) -> Operand
     ensures { λ r. ⌜ r ≡ operandOf x ⌝ }
 {
     match x {
@@ -34,7 +34,7 @@ pub fn operand_of(x: Reading) -> Operand
 }
 
 // Whether x stands to y as the operator says; equal is neither above nor below.
-pub fn compare(operator: Operator, x: i64, y: i64) -> bool
+pub fn compares(operator: Operator, x: i64, y: i64) -> bool
     ensures { λ r. ⌜ r ≡ compares operator x y ⌝ }
 {
     match operator {
@@ -72,7 +72,7 @@ pub fn holds(operator: Operator, x: Operand, y: Operand) -> bool
         },
         Operand::Exact(v) => match y {
             Operand::Missing => blank_holds(operator),
-            Operand::Exact(w) => compare(operator, v, w),
+            Operand::Exact(w) => compares(operator, v, w),
         },
     }
 }
@@ -95,7 +95,7 @@ fn plus(x: Reading, k: i32) -> Operand
 }
 
 // What a comparison compares with, for the activation a.
-pub fn reference_of(a: Event, reference: Reference) -> Operand
+fn reference_of(a: Event, reference: Reference) -> Operand
     ensures { λ r. ⌜ r ≡ referenceOf a reference ⌝ }
 {
     match reference {

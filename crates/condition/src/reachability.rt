@@ -4,11 +4,14 @@ ghost use mathlib.Core.List.{map};
 ghost use Rattle.declare.specs.Lists.{all, any};
 ghost use Rattle.declare.specs.Events.{inRange};
 ghost use Rattle.declare.specs.Reachability.{asks, meets, after, edgeOf, edge, someMeets, satisfiable, hasRoom};
-ghost use Rattle.condition.specs.Bound.{testList, canSuitOf};
+ghost use Rattle.condition.specs.Bound.{testList, canSuitBound};
 use crate::bound::Bound;
 use crate::bound::Tests;
 use crate::comparison::holds;
 use crate::window::within;
+use declare::GREATEST;
+use declare::LATEST;
+use declare::LEAST;
 use declare::Operand;
 use declare::Operator;
 use declare::Test;
@@ -20,7 +23,7 @@ fn in_range(v: Operand) -> bool
 {
     match v {
         Operand::Missing => true,
-        Operand::Exact(x) => (-2147483648 <= x) & (x <= 2147483647),
+        Operand::Exact(x) => (LEAST <= x) & (x <= GREATEST),
     }
 }
 
@@ -79,7 +82,7 @@ fn meets(tests: Tests, k: u8, v: Operand) -> bool
 fn after(y: i64) -> i64
     ensures { λ r. ⌜ r ≡ after y ⌝ }
 {
-    if y < 2147483647 { y + 1 } else { y }
+    if y < GREATEST { y + 1 } else { y }
 }
 
 // The only number, but the least of the range, at which a comparison with y can begin to hold.
@@ -89,8 +92,8 @@ fn edge_of(operator: Operator, y: i64) -> i64
     match operator {
         Operator::Equal => y,
         Operator::NotEqual => after(y),
-        Operator::Less => -2147483648,
-        Operator::AtMost => -2147483648,
+        Operator::Less => LEAST,
+        Operator::AtMost => LEAST,
         Operator::Greater => after(y),
         Operator::AtLeast => y,
     }
@@ -144,21 +147,22 @@ fn some_edge_meets(tests: Tests, k: u8) -> bool
     edge_meets(tests, k, tests.fourth)
 }
 
-// Whether reading k may have a value that passes its tests: if any, then a blank, the least number or an edge.
+// Whether reading k may have a value that passes its tests: if any, then a blank, the least number
+// or an edge.
 fn some_meets(tests: Tests, k: u8) -> bool
     ensures { λ r. ⌜ r ≡ someMeets (testList tests) k ⌝ }
 {
     if meets(tests, k, Operand::Missing) {
         return true;
     }
-    if meets(tests, k, Operand::Exact(-2147483648)) {
+    if meets(tests, k, Operand::Exact(LEAST)) {
         return true;
     }
     some_edge_meets(tests, k)
 }
 
 // Whether the readings of some event pass all the tests.
-pub fn satisfiable(tests: Tests) -> bool
+fn satisfiable(tests: Tests) -> bool
     ensures { λ r. ⌜ r ≡ satisfiable (testList tests) ⌝ }
 {
     let count = tests.count;
@@ -177,12 +181,13 @@ pub fn satisfiable(tests: Tests) -> bool
     some_meets(tests, 4)
 }
 
-// Whether the window of an activation at `time` has room for an event that is no earlier than the horizon.
-pub fn has_room(window: Window, time: u32, horizon: u32) -> bool
+// Whether the window of an activation at `time` has room for an event that is no earlier than the
+// horizon.
+fn has_room(window: Window, time: u32, horizon: u32) -> bool
     ensures { λ r. ⌜ r ≡ hasRoom window time horizon ⌝ }
 {
     let from = window.from;
-    if 4294967295 - time < from {
+    if LATEST - time < from {
         return false;
     }
     let opening = time + from;
@@ -192,9 +197,10 @@ pub fn has_room(window: Window, time: u32, horizon: u32) -> bool
     within(window, horizon - time)
 }
 
-// Whether an event that is no earlier than the horizon may suit the activation that the rule is bound to.
+// Whether an event that is no earlier than the horizon may suit the activation that the rule is
+// bound to.
 pub fn can_suit(bound: Bound, horizon: u32) -> bool
-    ensures { λ r. ⌜ r ≡ canSuitOf bound horizon ⌝ }
+    ensures { λ r. ⌜ r ≡ canSuitBound bound horizon ⌝ }
 {
     if !has_room(bound.window, bound.time, horizon) {
         return false;

@@ -1,12 +1,12 @@
 // Time differences.
 ghost use mathlib.Core.Path.{_≡_};
-ghost use Rattle.declare.specs.Suits.{before, within, between};
+ghost use Rattle.declare.specs.Suits.{beforeEnd, within, between};
 use declare::End;
 use declare::Window;
 
 // Whether the difference d is below the end.
-fn before(d: u32, until: End) -> bool
-    ensures { λ r. ⌜ r ≡ before d until ⌝ }
+fn before_end(d: u32, until: End) -> bool
+    ensures { λ r. ⌜ r ≡ beforeEnd d until ⌝ }
 {
     match until {
         End::Never => true,
@@ -19,7 +19,7 @@ pub fn within(window: Window, d: u32) -> bool
     ensures { λ r. ⌜ r ≡ within window d ⌝ }
 {
     let until = window.until;
-    (window.from <= d) & before(d, until)
+    (window.from <= d) & before_end(d, until)
 }
 
 // The later time minus the earlier.

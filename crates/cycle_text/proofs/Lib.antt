@@ -1,5 +1,5 @@
 -- The laws of cycle texts, for this crate and those above it.
-pub mod Steps
+pub mod Lines
 pub mod Turns
 pub mod RoundTrips
 pub mod Lengths

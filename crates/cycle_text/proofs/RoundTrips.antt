@@ -1,4 +1,5 @@
--- What an accepted text gives, and that writing and reading undo each other: first for one line, then for a text by the laws of texts.
+-- What an accepted text gives, and that writing and reading undo each other: first for one line,
+-- then for a text by the laws of texts.
 use mathlib.Core.Path.{_≡_, refl, _∙_, ap}
 use mathlib.Core.Bool.{true}
 use mathlib.Core.List.{List, [], _∷_, _++_}
@@ -10,18 +11,20 @@ use lib.ListN.{length, getD, length-append}
 use Rattle.declare.specs.Lists.{all}
 use Rattle.declare.specs.Comparisons.{operandOf}
 use Rattle.declare.specs.Events.{latest, inRange, isActivity, readingsInRange, wellFormed, nonFallingFrom, nonFalling, lastFrom, lastTime}
-use Rattle.declare.specs.Steps.{capacity, Cycle}
+use Rattle.declare.specs.Steps.{Cycle}
+use Rattle.declare.specs.Limits.{lastActivity, mostEvents}
 use Rattle.declare.proofs.Booleans.{and₂, and₃, all-append}
 use Rattle.declare.proofs.Extension.{non-falling-parts}
 use Rattle.line.specs.Fields.{LF, tab}
-use Rattle.line.specs.Answers.{Of, _>>=_, _>>_, require}
+use Rattle.declare.specs.Answers.{accepted, _>>=_, _>>_, require}
 use Rattle.line.specs.Values.{numberField, readingField}
-use Rattle.line.proofs.Answers.{of-of, through, required}
+use Rattle.declare.proofs.Answers.{of-of, through, required}
 use Rattle.line.proofs.Values.{number-written, number-read, reading-written, reading-read, lacks-number, lacks-reading}
+use Rattle.line.proofs.Lines.{all-numbered}
 use Rattle.line.proofs.Joined.{lacks}
-use Rattle.line.proofs.Texts.{Parted, Follow, text-written, text-back, accepted}
+use Rattle.line.proofs.Texts.{Parted, Follow, text-written, text-back, accepted-records}
 use Rattle.cycle_text.specs.Types.{Event}
-use Rattle.cycle_text.specs.Cycle.{eventOf, inOrder, eventAfter, cycleTextOf}
+use Rattle.cycle_text.specs.Cycle.{eventFieldCount, eventOf, inOrder, eventAfter, cycleTextOf}
 use Rattle.cycle_text.specs.Written.{eventFields, eventsText, RoundTrips}
 use Rattle.cycle_text.proofs.Turns.{last-taken}
 
@@ -29,15 +32,15 @@ use Rattle.cycle_text.proofs.Turns.{last-taken}
 
 -- what its six fields gave
 pub record EventRead (fields : List (List ℕ)) (e : Event) : Type 0 where
-  pub six : length fields ≡ 6
-  pub time : numberField 0 4294967295 (getD fields 0 []) ≡ Of (e .time)
-  pub activity : numberField 1 64 (getD fields 1 []) ≡ Of (e .activity)
-  pub reading1 : readingField (getD fields 2 []) ≡ Of (e .reading1)
-  pub reading2 : readingField (getD fields 3 []) ≡ Of (e .reading2)
-  pub reading3 : readingField (getD fields 4 []) ≡ Of (e .reading3)
-  pub reading4 : readingField (getD fields 5 []) ≡ Of (e .reading4)
+  pub six : length fields ≡ eventFieldCount
+  pub time : numberField 0 latest (getD fields 0 []) ≡ accepted (e .time)
+  pub activity : numberField 1 lastActivity (getD fields 1 []) ≡ accepted (e .activity)
+  pub reading1 : readingField (getD fields 2 []) ≡ accepted (e .reading1)
+  pub reading2 : readingField (getD fields 3 []) ≡ accepted (e .reading2)
+  pub reading3 : readingField (getD fields 4 []) ≡ accepted (e .reading3)
+  pub reading4 : readingField (getD fields 5 []) ≡ accepted (e .reading4)
 
-pub event-read : (fields : List (List ℕ)) (e : Event) → eventOf fields ≡ Of e → EventRead fields e
+pub event-read : (fields : List (List ℕ)) (e : Event) → eventOf fields ≡ accepted e → EventRead fields e
 unfolding eventOf
 event-read fields e h =
     let s = required _ 1 _ e h in
@@ -49,47 +52,37 @@ event-read fields e h =
     let u = through _ _ e (r .rest) in
     let k = of-of (u .rest) in
     record {
-      six = eqb-true (length fields) 6 (s .0);
-      time = t .first ∙ ap (λ (x : Event). Of (x .time)) k;
-      activity = a .first ∙ ap (λ (x : Event). Of (x .activity)) k;
-      reading1 = p .first ∙ ap (λ (x : Event). Of (x .reading1)) k;
-      reading2 = q .first ∙ ap (λ (x : Event). Of (x .reading2)) k;
-      reading3 = r .first ∙ ap (λ (x : Event). Of (x .reading3)) k;
-      reading4 = u .first ∙ ap (λ (x : Event). Of (x .reading4)) k;
+      six = eqb-true (length fields) eventFieldCount (s .0);
+      time = t .first ∙ ap (λ (x : Event). accepted (x .time)) k;
+      activity = a .first ∙ ap (λ (x : Event). accepted (x .activity)) k;
+      reading1 = p .first ∙ ap (λ (x : Event). accepted (x .reading1)) k;
+      reading2 = q .first ∙ ap (λ (x : Event). accepted (x .reading2)) k;
+      reading3 = r .first ∙ ap (λ (x : Event). accepted (x .reading3)) k;
+      reading4 = u .first ∙ ap (λ (x : Event). accepted (x .reading4)) k;
     }
 
 -- its event is well-formed
 read-formed : (fields : List (List ℕ)) (e : Event) → EventRead fields e → wellFormed e ≡ true
-unfolding wellFormed latest isActivity readingsInRange all
+unfolding wellFormed isActivity readingsInRange all
 read-formed fields e h =
-    let t = number-read 0 4294967295 _ _ (h .time) in
-    let a = number-read 1 64 _ _ (h .activity) in
-    rw (le-leb (e .time) 4294967295 (t .high), le-leb 1 (e .activity) (a .low), le-leb (e .activity) 64 (a .high), reading-read _ _ (h .reading1) .range, reading-read _ _ (h .reading2) .range, reading-read _ _ (h .reading3) .range, reading-read _ _ (h .reading4) .range)
-
-six-parts : (fs : List (List ℕ)) → length fs ≡ 6 → getD fs 0 [] ∷ getD fs 1 [] ∷ getD fs 2 [] ∷ getD fs 3 [] ∷ getD fs 4 [] ∷ getD fs 5 [] ∷ [] ≡ fs
-six-parts [] h = absurd (omega arith)
-six-parts (a ∷ []) h = absurd (omega arith)
-six-parts (a ∷ b ∷ []) h = absurd (omega arith)
-six-parts (a ∷ b ∷ c ∷ []) h = absurd (omega arith)
-six-parts (a ∷ b ∷ c ∷ d ∷ []) h = absurd (omega arith)
-six-parts (a ∷ b ∷ c ∷ d ∷ e ∷ []) h = absurd (omega arith)
-six-parts (a ∷ b ∷ c ∷ d ∷ e ∷ f ∷ []) h = refl
-six-parts (a ∷ b ∷ c ∷ d ∷ e ∷ f ∷ g ∷ fs) h = absurd (omega arith)
+    let t = number-read 0 latest _ _ (h .time) in
+    let a = number-read 1 lastActivity _ _ (h .activity) in
+    rw (le-leb (e .time) latest (t .high), le-leb 1 (e .activity) (a .low), le-leb (e .activity) lastActivity (a .high), reading-read _ _ (h .reading1) .range, reading-read _ _ (h .reading2) .range, reading-read _ _ (h .reading3) .range, reading-read _ _ (h .reading4) .range)
 
 -- and is written as the same fields
 read-fields : (fields : List (List ℕ)) (e : Event) → EventRead fields e → eventFields e ≡ fields
 unfolding eventFields
 read-fields fields e h =
-    rw (number-read 0 4294967295 _ _ (h .time) .text, number-read 1 64 _ _ (h .activity) .text, reading-read _ _ (h .reading1) .text, reading-read _ _ (h .reading2) .text, reading-read _ _ (h .reading3) .text, reading-read _ _ (h .reading4) .text)
-    (six-parts fields (h .six))
+    rw (number-read 0 latest _ _ (h .time) .text, number-read 1 lastActivity _ _ (h .activity) .text, reading-read _ _ (h .reading1) .text, reading-read _ _ (h .reading2) .text, reading-read _ _ (h .reading3) .text, reading-read _ _ (h .reading4) .text)
+    (all-numbered eventFieldCount fields (h .six))
 
 -- what was checked of a line below others
 record After (above : List Event) (fields : List (List ℕ)) (e : Event) : Type 0 where
   line : EventRead fields e
   order : lastTime above ≤ e .time
-  room : length above < 256
+  room : length above < mostEvents
 
-event-after : (above : List Event) (fields : List (List ℕ)) (e : Event) → eventAfter above fields ≡ Of e → After above fields e
+event-after : (above : List Event) (fields : List (List ℕ)) (e : Event) → eventAfter above fields ≡ accepted e → After above fields e
 unfolding eventAfter inOrder
 event-after above fields e h =
     let t = through _ _ e h in
@@ -97,15 +90,15 @@ event-after above fields e h =
     let l = required _ 8 _ e (o .1) in
     let k : t .value ≡ e = of-of (l .1) in
     record {
-      line = event-read fields e (t .first ∙ ap Of k);
+      line = event-read fields e (t .first ∙ ap accepted k);
       order = leb-true (lastTime above) (e .time) (rw k at (o .0));
-      room = ltb-true (length above) 256 (l .0);
+      room = ltb-true (length above) mostEvents (l .0);
     }
 
 -- ---- an accepted text
 
-cycle-more : (above : List Event) (fields : List (List ℕ)) (e : Event) → Cycle above → eventAfter above fields ≡ Of e → Cycle (above ++ (e ∷ []))
-unfolding nonFalling all lastTime nonFallingFrom capacity
+cycle-more : (above : List Event) (fields : List (List ℕ)) (e : Event) → Cycle above → eventAfter above fields ≡ accepted e → Cycle (above ++ (e ∷ []))
+unfolding nonFalling all lastTime nonFallingFrom
 cycle-more above fields e s h =
     let a = event-after above fields e h in
     record {
@@ -117,43 +110,43 @@ cycle-more above fields e s h =
 -- ---- a line that is written
 
 pub record Formed (e : Event) : Type 0 where
-  pub time : e .time ≤ 4294967295
+  pub time : e .time ≤ latest
   pub low : 1 ≤ e .activity
-  pub high : e .activity ≤ 64
+  pub high : e .activity ≤ lastActivity
   pub reading1 : inRange (operandOf (e .reading1)) ≡ true
   pub reading2 : inRange (operandOf (e .reading2)) ≡ true
   pub reading3 : inRange (operandOf (e .reading3)) ≡ true
   pub reading4 : inRange (operandOf (e .reading4)) ≡ true
 
 pub formed : (e : Event) → wellFormed e ≡ true → Formed e
-unfolding wellFormed latest isActivity readingsInRange all
+unfolding wellFormed isActivity readingsInRange all
 formed e h =
-    let p : (leb (e .time) 4294967295 ≡ true) × (isActivity (e .activity) ≡ true) × (readingsInRange e ≡ true) = and₃ h in
-    let a : (leb 1 (e .activity) ≡ true) × (leb (e .activity) 64 ≡ true) = and₂ (p .1) in
+    let p : (leb (e .time) latest ≡ true) × (isActivity (e .activity) ≡ true) × (readingsInRange e ≡ true) = and₃ h in
+    let a : (leb 1 (e .activity) ≡ true) × (leb (e .activity) lastActivity ≡ true) = and₂ (p .1) in
     let q : (inRange (operandOf (e .reading1)) ≡ true) × (all (λ v. inRange (operandOf v)) (e .reading2 ∷ e .reading3 ∷ e .reading4 ∷ []) ≡ true) = and₂ (p .2) in
     let r : (inRange (operandOf (e .reading2)) ≡ true) × (all (λ v. inRange (operandOf v)) (e .reading3 ∷ e .reading4 ∷ []) ≡ true) = and₂ (q .1) in
     let u : (inRange (operandOf (e .reading3)) ≡ true) × (all (λ v. inRange (operandOf v)) (e .reading4 ∷ []) ≡ true) = and₂ (r .1) in
     let v : (inRange (operandOf (e .reading4)) ≡ true) × (true ≡ true) = and₂ (u .1) in
     record {
-      time = leb-true (e .time) 4294967295 (p .0);
+      time = leb-true (e .time) latest (p .0);
       low = leb-true 1 (e .activity) (a .0);
-      high = leb-true (e .activity) 64 (a .1);
+      high = leb-true (e .activity) lastActivity (a .1);
       reading1 = q .0;
       reading2 = r .0;
       reading3 = u .0;
       reading4 = v .0;
     }
 
-event-written : (e : Event) → wellFormed e ≡ true → eventOf (eventFields e) ≡ Of e
+event-written : (e : Event) → wellFormed e ≡ true → eventOf (eventFields e) ≡ accepted e
 unfolding eventOf eventFields require _>>_ _>>=_
 event-written e h =
     let w = formed e h in
-    rw (number-written 0 4294967295 (e .time) (omega arith) (w .time), number-written 1 64 (e .activity) (w .low) (w .high), reading-written (e .reading1) (w .reading1), reading-written (e .reading2) (w .reading2), reading-written (e .reading3) (w .reading3), reading-written (e .reading4) (w .reading4))
+    rw (number-written 0 latest (e .time) (omega arith) (w .time), number-written 1 lastActivity (e .activity) (w .low) (w .high), reading-written (e .reading1) (w .reading1), reading-written (e .reading2) (w .reading2), reading-written (e .reading3) (w .reading3), reading-written (e .reading4) (w .reading4))
 
-after-written : (above : List Event) (e : Event) → wellFormed e ≡ true → lastTime above ≤ e .time → length above < 256 → eventAfter above (eventFields e) ≡ Of e
+after-written : (above : List Event) (e : Event) → wellFormed e ≡ true → lastTime above ≤ e .time → length above < mostEvents → eventAfter above (eventFields e) ≡ accepted e
 unfolding eventAfter inOrder require _>>_ _>>=_
 after-written above e h l m =
-    rw (event-written e h, le-leb (lastTime above) (e .time) l, lt-ltb (length above) 256 m)
+    rw (event-written e h, le-leb (lastTime above) (e .time) l, lt-ltb (length above) mostEvents m)
 
 -- neither tab nor LF stands in a field
 lacks-fields : (b : ℕ) (e : Event) → b < 45 → all (lacks b) (eventFields e) ≡ true
@@ -167,7 +160,7 @@ parted e = record { some = omega arith; tabs = lacks-fields tab e (omega arith);
 
 -- ---- a written text
 
-follow : (above es : List Event) → all wellFormed es ≡ true → nonFallingFrom (lastTime above) es ≡ true → length above + length es ≤ 256 → Follow eventAfter eventFields above es
+follow : (above es : List Event) → all wellFormed es ≡ true → nonFallingFrom (lastTime above) es ≡ true → length above + length es ≤ mostEvents → Follow eventAfter eventFields above es
 unfolding Follow all nonFallingFrom
 follow above [] f o m = tt
 follow above (e ∷ es) f o m =
@@ -179,10 +172,10 @@ follow above (e ∷ es) f o m =
     )
 
 pub round-trips : RoundTrips
-unfolding cycleTextOf eventsText nonFalling nonFallingFrom all lastFrom lastTime capacity
+unfolding cycleTextOf eventsText nonFalling nonFallingFrom all lastFrom lastTime
 round-trips =
     record {
-      sound = λ text es. accepted eventAfter Cycle (record { most = omega arith; formed = refl; order = refl }) cycle-more text es;
+      valid = λ text es. accepted-records eventAfter Cycle (record { most = omega arith; formed = refl; order = refl }) cycle-more text es;
       read = λ es s. text-written eventAfter eventFields es (follow [] es (s .formed) (s .order) (omega (arith, s .most)));
       again = λ text es. text-back eventAfter eventFields (λ above fields e h. read-fields fields e (event-after above fields e h .line)) text es;
     }

@@ -1,21 +1,22 @@
--- Whole cycle texts, by computation over the definitions: what is accepted, each refusal with its line, and the order of the checks.
+-- Whole cycle texts, by computation over the definitions: what is accepted, each refusal with its
+-- line, and the order of the checks.
 use mathlib.Core.Path.{_≡_, refl}
 use mathlib.Core.List.{List, [], _∷_, _++_}
-use Prim.Native.Nat.{ℕ, zero, suc}
+use Prim.Native.Nat.{ℕ}
 use Prim.Native.String.{String}
 use lib.IntN.{pos, negsuc}
 use lib.ListN.{length, replicate}
 use Rattle.declare.specs.Events.{lastFrom, lastTime, emptySlot}
-use Rattle.number.specs.Number.{digit, digits, none, zeroAlone, positive, negative, naturalForm, integerForm, dash, valueFrom, valueOf, integerValue, inRange, naturalOf, inSignedRange, integerOf}
+use Rattle.number.specs.Number.{digit, digits, none, zeroAlone, positive, negative, naturalForm, integerForm, dash, valueFrom, valueOf, integerValue, inNaturalRange, naturalOf, inSignedRange, integerOf}
 use Rattle.number.specs.Written.{digitsIn, digitsOf, integerText}
-use Rattle.number.proofs.Quoted.{bytes, Case, _gives_, Checked}
+use Rattle.number.proofs.Quoted.{bytes, repeated, Case, _gives_, Checked}
 use Rattle.line.specs.Fields.{onto, split, eachAfter, joined}
-use Rattle.line.specs.Answers.{_>>=_, _>>_, require}
+use Rattle.declare.specs.Answers.{_>>=_, _>>_, require}
 use Rattle.line.specs.Values.{faultNumber, naturalAnswer, numberField, integerAnswer, readingField, readingText}
 use Rattle.line.specs.Texts.{Records, All, Stop, lineAfter, continued, linesOf, textOf, writtenLine, writtenText}
 use Rattle.cycle_text.specs.Types.{Reading, Blank, Value, Event}
 use Rattle.cycle_text.specs.Cycle.{eventOf, inOrder, eventAfter, cycleTextOf}
-use Rattle.cycle_text.specs.Reads.{padded}
+use Rattle.declare.specs.Slots.{padded, eventSlots}
 use Rattle.cycle_text.specs.Written.{eventFields, eventsText}
 
 abbrev event : ℕ → ℕ → Reading → Event
@@ -45,8 +46,8 @@ longest =
     let lowest : Reading = Value (negsuc 2147483647) in
     record { time = 4294967295; activity = 64; reading1 = lowest; reading2 = lowest; reading3 = lowest; reading4 = lowest }
 
-abbrev accepted : List (Case (Records Event))
-accepted =
+abbrev acceptedTexts : List (Case (Records Event))
+acceptedTexts =
     "" gives All []
     -- times may repeat
     ∷ "5\t1\t-\t-\t-\t-\n5\t1\t-\t-\t-\t-\n" gives All (event 5 1 Blank ∷ event 5 1 Blank ∷ [])
@@ -57,8 +58,8 @@ accepted =
     ∷ []
 
 -- each cause, with its line
-abbrev refused : List (Case (Records Event))
-refused =
+abbrev refusedTexts : List (Case (Records Event))
+refusedTexts =
     -- an empty line is one empty field; a tab at the end of a line leaves an empty field behind it
     "\n" gives Stop 1 1
     ∷ "0\t1\t-\t-\t-\n" gives Stop 1 1
@@ -112,7 +113,7 @@ ordered =
     ∷ "5\t1\t-\t-\t-\t-\n4\t1\t-\t-\t-\t-" gives Stop 12 2
     ∷ "999999999999999999999999999999999999999999999999999999999999\n" gives Stop 1 1
     ∷ "999999999999999999999999999999999999999999999999999999999999" gives Stop 12 1
-    -- the first line that is refused
+    -- the first line that is refusedTexts
     ∷ "x\n0" gives Stop 1 1
     ∷ "0\tx\t-\t-\t-\t-\n\n" gives Stop 2 1
     ∷ "5\t1\t-\t-\t-\t-\n4\t1\t-\t-\t-\t-\nx\n" gives Stop 7 2
@@ -129,31 +130,27 @@ full =
     ∷ "" gives All (replicate 256 (event 5 1 Blank))
     ∷ []
 
-abbrev times : ℕ → List ℕ → List ℕ
-times zero line = []
-times (suc n) line = line ++ times n line
-
 pub record Vectors : Type 0 where
+  -- 256 slots, each that is not filled at time 0, activity 1 and blank readings
+  pub of-slots : eventSlots (event 5 2 Blank ∷ []) ≡ event 5 2 Blank ∷ replicate 255 (event 0 1 Blank)
+  pub of-longest : length (bytes longestText) ≡ 62
   pub listing-read : cycleTextOf listingText ≡ All listing
   pub listing-written : eventsText listing ≡ listingText
-  pub of-accepted : Checked cycleTextOf accepted
-  pub of-longest : length (bytes longestText) ≡ 62
-  pub of-refused : Checked cycleTextOf refused
+  pub of-accepted : Checked cycleTextOf acceptedTexts
+  pub of-refused : Checked cycleTextOf refusedTexts
   pub of-ordered : Checked cycleTextOf ordered
-  pub of-full : Checked (λ s. cycleTextOf (times 256 (bytes "5\t1\t-\t-\t-\t-\n") ++ s)) full
-  -- 256 slots, each that is not filled at time 0, activity 1 and blank readings
-  pub of-slots : padded (event 5 2 Blank ∷ []) ≡ event 5 2 Blank ∷ replicate 255 (event 0 1 Blank)
+  pub of-full : Checked (λ s. cycleTextOf (repeated 256 "5\t1\t-\t-\t-\t-\n" ++ s)) full
 
 pub vectors : Vectors
-unfolding lastFrom lastTime digit digits none zeroAlone positive negative naturalForm integerForm dash valueFrom valueOf integerValue inRange naturalOf inSignedRange integerOf digitsIn digitsOf integerText onto split eachAfter joined _>>=_ _>>_ require faultNumber naturalAnswer numberField integerAnswer readingField readingText lineAfter continued linesOf textOf writtenLine writtenText eventOf inOrder eventAfter cycleTextOf padded emptySlot eventFields eventsText
+unfolding lastFrom lastTime digit digits none zeroAlone positive negative naturalForm integerForm dash valueFrom valueOf integerValue inNaturalRange naturalOf inSignedRange integerOf digitsIn digitsOf integerText onto split eachAfter joined _>>=_ _>>_ require faultNumber naturalAnswer numberField integerAnswer readingField readingText lineAfter continued linesOf textOf writtenLine writtenText eventOf inOrder eventAfter cycleTextOf padded emptySlot eventFields eventsText
 vectors =
     record {
+      of-slots = refl;
+      of-longest = refl;
       listing-read = refl;
       listing-written = refl;
       of-accepted = refl;
-      of-longest = refl;
       of-refused = refl;
       of-ordered = refl;
       of-full = refl;
-      of-slots = refl;
     }

@@ -9,7 +9,7 @@ use Rattle.declare.specs.Steps.{Cycle}
 use Rattle.number.specs.Written.{digitsOf}
 use Rattle.line.specs.Fields.{isByte}
 use Rattle.line.specs.Values.{readingText}
-use Rattle.line.specs.Texts.{All, writtenLine, writtenText}
+use Rattle.line.specs.Texts.{All, writtenText}
 use Rattle.cycle_text.specs.Types.{Event}
 use Rattle.cycle_text.specs.Cycle.{cycleTextOf}
 
@@ -23,16 +23,13 @@ eventFields e =
     ∷ readingText (e .reading4)
     ∷ []
 
-unfoldable pub eventLineOf : Event → List ℕ
-eventLineOf e = writtenLine eventFields e
-
 unfoldable pub eventsText : List Event → List ℕ
 eventsText es = writtenText eventFields es
 
 -- proved in proofs/RoundTrips
 pub record RoundTrips : Type 0 where
   -- an accepted text gives events that a run can have taken
-  pub sound : (text : List ℕ) (es : List Event) → cycleTextOf text ≡ All es → Cycle es
+  pub valid : (text : List ℕ) (es : List Event) → cycleTextOf text ≡ All es → Cycle es
   -- "a written text reads back as the same records"
   pub read : (es : List Event) → Cycle es → cycleTextOf (eventsText es) ≡ All es
   -- "an accepted text comes out again byte for byte"

@@ -2,46 +2,60 @@
 ghost use mathlib.Core.Path.{_≡_};
 ghost use Prim.Native.Nat.{_+_};
 ghost use lib.ListN.{length};
-ghost use Rattle.line.specs.Fields.{LF, tab, indexOf, before, split};
+ghost use Rattle.line.specs.Fields.{LF, indexOf, fieldsFrom};
 ghost use Rattle.line.specs.Texts.{lineOf};
 ghost use Rattle.cycle_text.specs.Cycle.{eventOf, cycleTextOf};
-ghost use Rattle.cycle_text.specs.Reads.{eventRead, furtherReadings, recordsOf, eventsIn, padded, refusedRead};
+ghost use Rattle.declare.specs.Slots.{eventSlots};
+ghost use Rattle.cycle_text.specs.Reads.{eventRead, eventWith, recordsOf, eventsIn, refusedRead};
+use declare::EVENTS;
 use declare::Event;
-use declare::Reading;
+use declare::LAST_ACTIVITY;
 use declare::Refusal;
 use declare::slots::empty_slot;
+use line::LINE_FEED;
 use line::NumberAnswer;
 use line::Outcome;
 use line::ReadingAnswer;
+use line::TAB;
+use line::reading_field;
+use line::rest_of;
+
+// The tabs between the six fields of a line.
+const TABS: usize = 5;
 
 pub enum EventAnswer {
     Found(Event),
     NoEvent(Refusal),
 }
 
-// The last three fields of a line.
-fn further_readings(part: &[u8], time: u32, activity: u8, reading1: Reading) -> EventAnswer
-    requires { ⌜ length (split tab (before LF (now part))) ≡ 3 ⌝ }
-    ensures { λ r. ⌜ eventRead r ≡ furtherReadings time activity reading1 (split tab (before LF (now (part .entry)))) ⌝ }
+// The four readings of a line, after its time and activity.
+fn readings(part: &[u8], time: u32, activity: u8) -> EventAnswer
+    ensures { λ r. ⌜ eventRead r ≡ eventWith time activity (fieldsFrom 3 (now (part .entry))) ⌝ }
 {
-    let second = line::reading_field(part, b'\t');
-    let second_answer = second.answer;
-    let reading2 = match second_answer {
-        ReadingAnswer::Read(reading) => reading,
+    let field = reading_field(part, TAB);
+    let answer = field.answer;
+    let reading1 = match answer {
+        ReadingAnswer::Read(value) => value,
         ReadingAnswer::NoReading(cause) => return EventAnswer::NoEvent(cause),
     };
-    let third_at = second.length + 1;
-    let third_part = &part[third_at..];
-    let third = line::reading_field(third_part, b'\t');
-    let third_answer = third.answer;
-    let reading3 = match third_answer {
-        ReadingAnswer::Read(reading) => reading,
+    let part = rest_of(part, field.length);
+    let field = reading_field(part, TAB);
+    let answer = field.answer;
+    let reading2 = match answer {
+        ReadingAnswer::Read(value) => value,
         ReadingAnswer::NoReading(cause) => return EventAnswer::NoEvent(cause),
     };
-    let fourth_at = third.length + 1;
-    let fourth = line::reading_field(&third_part[fourth_at..], b'\n');
-    let fourth_answer = fourth.answer;
-    match fourth_answer {
+    let part = rest_of(part, field.length);
+    let field = reading_field(part, TAB);
+    let answer = field.answer;
+    let reading3 = match answer {
+        ReadingAnswer::Read(value) => value,
+        ReadingAnswer::NoReading(cause) => return EventAnswer::NoEvent(cause),
+    };
+    let part = rest_of(part, field.length);
+    let field = reading_field(part, LINE_FEED);
+    let answer = field.answer;
+    match answer {
         ReadingAnswer::Read(reading4) => EventAnswer::Found(Event {
             time,
             activity,
@@ -54,35 +68,24 @@ fn further_readings(part: &[u8], time: u32, activity: u8, reading1: Reading) -> 
     }
 }
 
-// The six fields of the first line.
-fn read_event(rest: &[u8]) -> EventAnswer
-    requires { ⌜ length (split tab (before LF (now rest))) ≡ 6 ⌝ }
-    ensures { λ r. ⌜ eventRead r ≡ eventOf (split tab (before LF (now (rest .entry)))) ⌝ }
+// A line of six fields, each read from the part of the line that begins at it.
+fn read_event(part: &[u8]) -> EventAnswer
+    ensures { λ r. ⌜ eventRead r ≡ eventOf (fieldsFrom 5 (now (part .entry))) ⌝ }
 {
-    let first = line::number_field(rest, b'\t', 0, 4294967295);
-    let first_answer = first.answer;
-    let time = match first_answer {
-        NumberAnswer::Number(number) => number,
+    let field = line::number_field(part, TAB, 0, u32::MAX);
+    let answer = field.answer;
+    let time = match answer {
+        NumberAnswer::Number(value) => value,
         NumberAnswer::NoNumber(cause) => return EventAnswer::NoEvent(cause),
     };
-    let second_at = first.length + 1;
-    let second_part = &rest[second_at..];
-    let second = line::number_field(second_part, b'\t', 1, 64);
-    let second_answer = second.answer;
-    let activity = match second_answer {
-        NumberAnswer::Number(number) => number,
+    let part = rest_of(part, field.length);
+    let field = line::number_field(part, TAB, 1, LAST_ACTIVITY as u32);
+    let answer = field.answer;
+    let activity = match answer {
+        NumberAnswer::Number(value) => value,
         NumberAnswer::NoNumber(cause) => return EventAnswer::NoEvent(cause),
     };
-    let third_at = second.length + 1;
-    let third_part = &second_part[third_at..];
-    let third = line::reading_field(third_part, b'\t');
-    let third_answer = third.answer;
-    let reading1 = match third_answer {
-        ReadingAnswer::Read(reading) => reading,
-        ReadingAnswer::NoReading(cause) => return EventAnswer::NoEvent(cause),
-    };
-    let fourth_at = third.length + 1;
-    further_readings(&third_part[fourth_at..], time, activity as u8, reading1)
+    readings(rest_of(part, field.length), time, activity as u8)
 }
 
 pub struct CycleLine {
@@ -95,7 +98,7 @@ pub fn cycle_line(rest: &[u8]) -> CycleLine
     ensures { λ r. ⌜ eventRead (r .answer) ≡ lineOf eventOf (now (rest .entry)) ⌝ }
     ensures { λ r. ⌜ r .next ≡ indexOf LF (now (rest .entry)) + 1 ⌝ }
 {
-    let scan = line::scan_line(rest, b'\t');
+    let scan = line::scan_line(rest, TAB);
     let end = scan.end;
     let next = end + 1;
     if rest.len() <= end {
@@ -104,7 +107,7 @@ pub fn cycle_line(rest: &[u8]) -> CycleLine
             next,
         };
     }
-    if scan.separators != 5 {
+    if scan.separators != TABS {
         return CycleLine {
             answer: EventAnswer::NoEvent(Refusal::FieldCount),
             next,
@@ -117,7 +120,7 @@ pub fn cycle_line(rest: &[u8]) -> CycleLine
 pub struct CycleRead {
     pub outcome: Outcome,
     pub count: usize,
-    pub events: [Event; 256],
+    pub events: [Event; EVENTS],
 }
 
 // A refused text has no events.
@@ -128,7 +131,7 @@ fn refused(cause: Refusal, line: usize) -> CycleRead
     CycleRead {
         outcome: Outcome::Refused(cause, line),
         count: 0,
-        events: [slot; 256],
+        events: [slot; EVENTS],
     }
 }
 
@@ -136,10 +139,10 @@ fn refused(cause: Refusal, line: usize) -> CycleRead
 pub fn read_cycle(text: &[u8]) -> CycleRead
     ensures { λ r. ⌜ recordsOf r ≡ cycleTextOf (now (text .entry)) ⌝ }
     ensures { λ r. ⌜ r .count ≡ length (eventsIn (cycleTextOf (now (text .entry)))) ⌝ }
-    ensures { λ r. ⌜ r .events ≡ padded (eventsIn (cycleTextOf (now (text .entry)))) ⌝ }
+    ensures { λ r. ⌜ r .events ≡ eventSlots (eventsIn (cycleTextOf (now (text .entry)))) ⌝ }
 {
     let slot = empty_slot();
-    let mut events = [slot; 256];
+    let mut events = [slot; EVENTS];
     let mut count: usize = 0;
     let mut last: u32 = 0;
     let mut at: usize = 0;
@@ -153,7 +156,7 @@ pub fn read_cycle(text: &[u8]) -> CycleRead
                 if time < last {
                     return refused(Refusal::TimeFalls, count + 1);
                 }
-                if 256 <= count {
+                if EVENTS <= count {
                     return refused(Refusal::TooMany, count + 1);
                 }
                 events[count] = event;

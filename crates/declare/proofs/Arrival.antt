@@ -1,27 +1,28 @@
 -- An eligible event can come exactly if some continuation has one.
 --
--- One way: an eligible event past the end shows that the window still has room, that the next position is in reach, and that the
--- correlation is satisfiable. The other way: the soonest event with the chosen readings, at the next position, is eligible.
-use mathlib.Core.Path.{_≡_, refl, sym, _∙_, ap}
-use mathlib.Core.Bool.{Bool, true, false, _&&_}
+-- One way: an eligible event past the end shows that the window still has room, that the next
+-- position is in reach, and that the correlation is satisfiable. The other way: the soonest event
+-- with the chosen readings, at the next position, is eligible.
+use mathlib.Core.Path.{_≡_, refl, sym, _∙_}
+use mathlib.Core.Bool.{Bool, true, false}
 use mathlib.Core.List.{List, [], _∷_, _++_}
-use Prim.Native.Nat.{ℕ, zero, suc, _+_, _-_, min, max, _≤_, _<_}
+use Prim.Native.Nat.{ℕ, suc, _+_, _-_, max, _≤_, _<_}
 use native.Mathlib.Omega.{arith}
 use borrow.Author.Tests.{ltb-true, leb-true, lt-ltb, le-leb, eq-eqb}
 use lib.Dec.{leb, eqb}
 use lib.ListN.{length, getD, length-append}
-use Rattle.declare.specs.Types.{Event, Comparison, Test, End, Never, At, Window, Rule}
+use Rattle.declare.specs.Types.{Event, Comparison, End, Never, At, Window, Rule}
 use Rattle.declare.specs.Lists.{all}
 use Rattle.declare.specs.Comparisons.{testOf, passes}
 use Rattle.declare.specs.Conditions.{comparisonsOf, testsOf, met}
 use Rattle.declare.specs.Events.{latest, isActivity, readingsInRange, wellFormed, nonFallingFrom, nonFalling, lastTime, noEvent, eventAt}
-use Rattle.declare.specs.Rules.{isTemplate, isReading, validReference, validComparison, noneTwice, validCondition, validWindow, validHead, validRule}
-use Rattle.declare.specs.Suits.{activationAt, before, within, between, correlates, suits}
+use Rattle.declare.specs.Rules.{isTemplate, isReading, validComparison, noneTwice, validCondition, validWindow, validHead, validRule}
+use Rattle.declare.specs.Suits.{activationAt, beforeEnd, within, between, correlates, suits}
 use Rattle.declare.specs.Templates.{inReach, reachOf}
 use Rattle.declare.specs.Verdicts.{eligible}
 use Rattle.declare.specs.Continuations.{continuation}
 use Rattle.declare.specs.Reachability.{satisfiable, soonest, hasRoom, canCome}
-use Rattle.declare.proofs.Booleans.{and-left, and₂, and₃, and₄, both, both₃, all-at, all-imply, all-map}
+use Rattle.declare.proofs.Booleans.{and-left, and₂, and₃, and₄, both, both₃, all-at, all-map}
 use Rattle.declare.proofs.Positions.{reach-next}
 use Rattle.declare.proofs.Satisfiability.{sound, complete, bringing, bringing-time, bringing-activity, bringing-in-range}
 use Rattle.declare.proofs.Extension.{event-same, event-added, event-next, in-reach-same, start-first, position-last}
@@ -32,7 +33,7 @@ pub well-formed-parts : (e : Event) → wellFormed e ≡ true → (leb (e .time)
 unfolding wellFormed
 well-formed-parts e h = and₃ h
 
-within-parts : (w : Window) (d : ℕ) → within w d ≡ true → (leb (w .from) d ≡ true) × (before d (w .until) ≡ true)
+within-parts : (w : Window) (d : ℕ) → within w d ≡ true → (leb (w .from) d ≡ true) × (beforeEnd d (w .until) ≡ true)
 unfolding within
 within-parts w d h = and₂ h
 
@@ -54,8 +55,8 @@ continuation-parts h added c = and₂ c
 
 -- ---- an event that suits shows that the window has room
 
-before-down : (u : End) (c d : ℕ) → c ≤ d → before d u ≡ true → before c u ≡ true
-unfolding before
+before-down : (u : End) (c d : ℕ) → c ≤ d → beforeEnd d u ≡ true → beforeEnd c u ≡ true
+unfolding beforeEnd
 before-down Never c d l h = refl
 before-down (At b) c d l h = lt-ltb c b (omega (arith, ltb-true d b h))
 

@@ -3,18 +3,21 @@ use mathlib.Core.Path.{refl}
 use Rattle.declare.specs.Lists.{all, any, noneBetween, orElse, firstUpTo}
 use Rattle.declare.specs.Comparisons.{plus, holds, referenceOf, testOf, passes}
 use Rattle.declare.specs.Conditions.{comparisonsOf, testsOf, met}
-use Rattle.declare.specs.Events.{latest, least, greatest, inRange, isActivity, readingsInRange, wellFormed, nonFallingFrom, nonFalling, lastFrom, lastTime, noEvent, eventAt}
+use Rattle.declare.specs.Events.{least, greatest, inRange, isActivity, readingsInRange, wellFormed, nonFallingFrom, nonFalling, lastFrom, lastTime, noEvent, eventAt}
 use Rattle.declare.specs.Rules.{isTemplate, isReading, validReference, validComparison, noneTwice, validCondition, validEnd, validWindow, validHead, validRule, rulesOf, validTable}
-use Rattle.declare.specs.Suits.{isActivation, activationAt, before, within, correlates, suits}
+use Rattle.declare.specs.Suits.{isActivation, activationAt, beforeEnd, within, correlates, suits}
 use Rattle.declare.specs.Templates.{templates, templateOf, inReach}
 use Rattle.declare.specs.Verdicts.{eligible, target, decided, verdict}
 use Rattle.declare.specs.Continuations.{horizon, continuation}
 use Rattle.declare.specs.Reachability.{asks, meets, after, edgeOf, edgeAt, edge, candidates, someMeets, satisfiable, soonest, hasRoom, canCome, undecided, standing}
+use Rattle.declare.specs.Refusals.{numberOf, hasLine}
+use Rattle.declare.specs.Answers.{_>>_, require, isAccepted}
+use Rattle.declare.specs.Steps.{admits, isTaken, takenAfter, taken}
 use Rattle.declare.specs.EdgeCycles.{edgeCycles, listing}
-use Rattle.declare.specs.FurtherCases.{activations, windows, twelve, comparisons, conditions, limits, Checked}
+use Rattle.declare.specs.FurtherCases.{activations, windows, twelve, comparisons, conditions, limits, withLine, withoutLine, offers, answers, takenTimes, Checked}
 
 pub checked : Checked
-unfolding edgeCycles listing activations windows twelve comparisons conditions limits all any noneBetween orElse firstUpTo plus holds referenceOf testOf passes comparisonsOf testsOf met latest least greatest inRange isActivity readingsInRange wellFormed nonFallingFrom nonFalling lastFrom lastTime noEvent eventAt isTemplate isReading validReference validComparison noneTwice validCondition validEnd validWindow validHead validRule rulesOf validTable isActivation activationAt before within correlates suits templates templateOf inReach eligible target decided verdict horizon continuation asks meets after edgeOf edgeAt edge candidates someMeets satisfiable soonest hasRoom canCome undecided standing
+unfolding offers answers takenTimes admits isAccepted isTaken takenAfter taken _>>_ require withLine withoutLine numberOf hasLine edgeCycles listing activations windows twelve comparisons conditions limits all any noneBetween orElse firstUpTo plus holds referenceOf testOf passes comparisonsOf testsOf met least greatest inRange isActivity readingsInRange wellFormed nonFallingFrom nonFalling lastFrom lastTime noEvent eventAt isTemplate isReading validReference validComparison noneTwice validCondition validEnd validWindow validHead validRule rulesOf validTable isActivation activationAt beforeEnd within correlates suits templates templateOf inReach eligible target decided verdict horizon continuation asks meets after edgeOf edgeAt edge candidates someMeets satisfiable soonest hasRoom canCome undecided standing
 checked =
     record {
       edge-cycles = refl;
@@ -25,4 +28,8 @@ checked =
       of-comparisons = refl;
       of-conditions = refl;
       of-limits = refl;
+      of-numbers = (refl, refl);
+      of-offers = refl;
+      of-taken = refl;
+      of-lines = (refl, refl);
     }

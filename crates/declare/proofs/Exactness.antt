@@ -1,30 +1,29 @@
 -- Early verdicts are exact.
 --
--- An activation that has an eligible event keeps it, and one to which none can come stays without: so the verdict, and its target,
--- is the same in every continuation. One that is open has two continuations that differ: none added, and the event that can come.
+-- An activation that has an eligible event keeps it, and one to which none can come stays without:
+-- so the verdict, and its target, is the same in every continuation. One that is open has two
+-- continuations that differ: none added, and the event that can come.
 use mathlib.Core.Path.{_≡_, refl, sym, _∙_, ap}
-use mathlib.Core.Bool.{Bool, true, false, cond, _&&_, true≢false, false≢true}
+use mathlib.Core.Bool.{Bool, true, false, not, cond, true≢false, false≢true}
 use mathlib.Core.List.{List, [], _∷_, _++_, append-nil}
-use Prim.Native.Nat.{ℕ, zero, suc, _≤_, _<_}
-use native.Mathlib.Omega.{arith}
-use native.Mathlib.Numerals.{add-one}
+use Prim.Native.Nat.{ℕ, zero, suc, _≤_}
 use borrow.Author.Tests.{eqb-true}
 use lib.Dec.{eqb}
-use lib.ListN.{length, length-append}
+use lib.ListN.{length}
 use Rattle.declare.specs.Types.{Event, Rule, Polarity, Positive, Negative, Standing, Idle, Open, Fulfilled, Violated}
-use Rattle.declare.specs.Lists.{all, firstUpTo}
-use Rattle.declare.specs.Events.{wellFormed, nonFallingFrom, nonFalling, lastTime}
+use Rattle.declare.specs.Lists.{all}
+use Rattle.declare.specs.Events.{nonFallingFrom, nonFalling, lastTime}
 use Rattle.declare.specs.Rules.{validRule}
 use Rattle.declare.specs.Suits.{activationAt}
 use Rattle.declare.specs.Templates.{polarityOf}
 use Rattle.declare.specs.Verdicts.{eligible, target, decided, verdict}
 use Rattle.declare.specs.Continuations.{continuation}
 use Rattle.declare.specs.Reachability.{canCome, undecided, standing}
-use Rattle.declare.specs.Standings.{isOpen, isFulfilled, isViolated}
-use Rattle.declare.specs.Exactness.{InEvery, InSome, Exact, Exactness, IdleElsewhere}
+use Rattle.declare.specs.Standings.{isIdle, isOpen, isFulfilled, isViolated}
+use Rattle.declare.specs.Exactness.{InSome, ExactAt, Exactness, IdleElsewhere}
 use Rattle.declare.proofs.Booleans.{and₂, fails}
-use Rattle.declare.proofs.Positions.{first-same, first-stays, first-none, first-here}
-use Rattle.declare.proofs.Extension.{activation-same, eligible-same}
+use Rattle.declare.proofs.Targets.{target-stays, target-next, target-still-none}
+use Rattle.declare.proofs.Extension.{activation-same}
 use Rattle.declare.proofs.Arrival.{comes, coming, coming-continues, coming-eligible}
 
 pub none-added : (h : ℕ) → continuation h [] ≡ true
@@ -34,31 +33,10 @@ none-added h = refl
 -- ---- the target
 
 module _ (r : Rule) (es : List Event) (i : ℕ) (low : 1 ≤ i) (high : i ≤ length es) where
-  longer : (added : List Event) → length es ≤ length (es ++ added)
-  longer added = omega (arith, length-append es added)
-
-  -- the earliest eligible one of the taken positions, in a continuation
-  target-taken : (added : List Event) → firstUpTo (eligible r (es ++ added) i) (length es) ≡ target r es i
-  unfolding target
-  target-taken added =
-      first-same (eligible r (es ++ added) i) (eligible r es i) (length es) (λ k a b. eligible-same r es added i k low high a b)
-
-  -- a target stays when events are appended
-  pub target-stays : (added : List Event) (j : ℕ) → target r es i ≡ suc j → target r (es ++ added) i ≡ suc j
-  unfolding target
-  target-stays added j e =
-      first-stays (eligible r (es ++ added) i) (length es) (length (es ++ added)) j (longer added) (target-taken added ∙ e)
-
-  target-next : (e : Event) → target r es i ≡ 0 → eligible r (es ++ e ∷ []) i (suc (length es)) ≡ true → target r (es ++ e ∷ []) i ≡ suc (length es)
-  unfolding target
-  target-next e none here =
-      rw (length-append, add-one) (first-here (eligible r (es ++ e ∷ []) i) (length es) (target-taken (e ∷ []) ∙ none) here)
-
   module _ (h : ℕ) (falls : nonFalling es ≡ true) (past : lastTime es ≤ h) where
     target-none : (added : List Event) → continuation h added ≡ true → target r es i ≡ 0 → canCome r es h i ≡ false → target r (es ++ added) i ≡ 0
-    unfolding target
     target-none added more none f =
-        first-none (eligible r (es ++ added) i) (length es) (length (es ++ added)) (longer added) (target-taken added ∙ none)
+        target-still-none r es i low high added none
         (λ k a b. fails (eligible r (es ++ added) i k) (comes r es added h i k falls past low high a b more) f)
 
     pub target-kept : (added : List Event) → continuation h added ≡ true → undecided r es h i ≡ false → target r (es ++ added) i ≡ target r es i
@@ -67,7 +45,7 @@ module _ (r : Rule) (es : List Event) (i : ℕ) (low : 1 ≤ i) (high : i ≤ le
       where
         go : (j : ℕ) → target r es i ≡ j → target r (es ++ added) i ≡ target r es i
         go zero e = target-none added more e (rw e at o) ∙ sym e
-        go (suc j) e = target-stays added j e ∙ sym e
+        go (suc j) e = target-stays r es i low high added j e ∙ sym e
 
 -- ---- the standing of an activation
 
@@ -128,7 +106,7 @@ module _ (r : Rule) (es : List Event) (h i : ℕ) (valid : validRule r ≡ true)
         go Negative a b =
             unfold decided in (([], none-added h, ap isFulfilled a), (added, coming-continues r es h i valid (o-parts .1), ap isViolated b))
 
-    exact-open : standing r es h i ≡ Open → Exact r es h i
+    exact-open : standing r es h i ≡ Open → ExactAt r es h i
     exact-open e =
         record {
           fulfilled = ((λ k. absurd (false≢true (rw e at k))), (λ f. absurd (not-both (verdict r (es ++ two .1 .0) i) (f (two .1 .0) (two .1 .1)) (two .1 .2))));
@@ -138,7 +116,7 @@ module _ (r : Rule) (es : List Event) (h i : ℕ) (valid : validRule r ≡ true)
         }
 
   -- ---- decided: the target, and so the verdict, is kept in every continuation
-  exact-decided : standing r es h i ≡ decided (polarityOf r) (target r es i) → undecided r es h i ≡ false → Exact r es h i
+  exact-decided : standing r es h i ≡ decided (polarityOf r) (target r es i) → undecided r es h i ≡ false → ExactAt r es h i
   exact-decided e o =
       let kept : (added : List Event) → continuation h added ≡ true → verdict r (es ++ added) i ≡ standing r es h i =
       λ added more. verdict-later added ∙ ap (decided (polarityOf r)) (target-kept r es i low high h falls past added more o) ∙ sym e in
@@ -152,7 +130,7 @@ module _ (r : Rule) (es : List Event) (h i : ℕ) (valid : validRule r ≡ true)
         kept = λ _ added more. kept added more;
       }
 
-  exact-by : (o : Bool) → undecided r es h i ≡ o → Exact r es h i
+  exact-by : (o : Bool) → undecided r es h i ≡ o → ExactAt r es h i
   exact-by true o = exact-open o (standing-is r es h i act ∙ ap (λ (t : Bool). cond t Open (decided (polarityOf r) (target r es i))) o)
   exact-by false o = exact-decided (standing-is r es h i act ∙ ap (λ (t : Bool). cond t Open (decided (polarityOf r) (target r es i))) o) o
 
@@ -173,3 +151,29 @@ idle-elsewhere r es h i =
     go : (a : Bool) → activationAt r es i ≡ a → cond a (cond (undecided r es h i) Open (decided (polarityOf r) (target r es i))) Idle ≡ Idle → activationAt r es i ≡ false
     go true q e = absurd (decision (undecided r es h i) e)
     go false q e = q
+
+-- ---- what is not idle is an activation
+
+decided-active : (p : Polarity) (j : ℕ) → isIdle (decided p j) ≡ false
+unfolding decided
+decided-active Positive zero = refl
+decided-active Positive (suc j) = refl
+decided-active Negative zero = refl
+decided-active Negative (suc j) = refl
+
+pub verdict-active : (r : Rule) (es : List Event) (i : ℕ) → not (isIdle (verdict r es i)) ≡ activationAt r es i
+unfolding verdict
+verdict-active r es i = go (activationAt r es i)
+  where
+    go : (a : Bool) → not (isIdle (cond a (decided (polarityOf r) (target r es i)) Idle)) ≡ a
+    go true = ap not (decided-active (polarityOf r) (target r es i))
+    go false = refl
+
+pub standing-active : (r : Rule) (es : List Event) (h i : ℕ) → not (isIdle (standing r es h i)) ≡ activationAt r es i
+unfolding standing
+standing-active r es h i = go (activationAt r es i) (undecided r es h i)
+  where
+    go : (a o : Bool) → not (isIdle (cond a (cond o Open (decided (polarityOf r) (target r es i))) Idle)) ≡ a
+    go false o = refl
+    go true true = refl
+    go true false = ap not (decided-active (polarityOf r) (target r es i))

@@ -5,9 +5,14 @@ pub mod Integers
 pub mod Satisfiability
 pub mod Extension
 pub mod Arrival
+pub mod Targets
 pub mod Exactness
 pub mod Words
 pub mod EdgeCycles
-pub mod Refusals
+pub mod Answers
 pub mod Steps
 pub mod Sweeps
+pub mod Lists
+pub mod Filled
+pub mod Carried
+pub mod Tables

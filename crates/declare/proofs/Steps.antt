@@ -1,13 +1,14 @@
 -- What taking an event, or closing, does to the standing of a position.
 --
--- Closing: an open activation has no eligible event, so its verdict is that of target 0. Taking: what can come after more events
--- could come before them, since the event that shows it continues both; so a decided standing stays decided, with its target.
+-- Closing: an open activation has no eligible event, so its verdict is that of target 0. Taking:
+-- what can come after more events could come before them, since the event that shows it continues
+-- both; so a decided standing stays decided, with its target.
 use mathlib.Core.Path.{_≡_, refl, sym, _∙_, ap}
 use mathlib.Core.Bool.{Bool, true, false, cond, _&&_, true≢false, false≢true}
-use mathlib.Core.List.{List, [], _∷_, _++_, append-assoc}
-use Prim.Native.Nat.{ℕ, zero, suc, _+_, _≤_, _<_}
+use mathlib.Core.List.{List, [], _∷_, _++_, append-nil, append-assoc}
+use Prim.Native.Nat.{ℕ, zero, suc, _≤_, _<_}
 use native.Mathlib.Omega.{arith}
-use borrow.Author.Tests.{eqb-true, ltb-true, leb-true}
+use borrow.Author.Tests.{eqb-true, lt-ltb, ltb-true}
 use lib.Dec.{eqb, leb, ltb}
 use lib.ListN.{length, length-append}
 use Rattle.declare.specs.Types.{Event, Rule, Polarity, Positive, Negative, Standing, Idle, Open, Fulfilled, Violated}
@@ -20,32 +21,35 @@ use Rattle.declare.specs.Verdicts.{eligible, target, decided, verdict}
 use Rattle.declare.specs.Continuations.{horizon, continuation}
 use Rattle.declare.specs.Reachability.{canCome, undecided, standing}
 use Rattle.declare.specs.Standings.{isOpen}
-use Rattle.declare.specs.Steps.{carried, closing, closed, capacity, Cycle, isTaken, takenAfter, taken}
-use Rattle.declare.proofs.Booleans.{and-left, and₂, and₃, both, fails, all-append}
-use Rattle.declare.proofs.Extension.{activation-same, non-falling-parts, last-parts, later-start}
+use Rattle.declare.specs.Answers.{_>>_, require, isAccepted}
+use Rattle.declare.specs.Steps.{carried, closing, closed, Cycle, admits, isTaken, takenAfter, taken}
+use Rattle.declare.specs.Limits.{mostEvents}
+use Rattle.declare.proofs.Booleans.{and-left, and-right, and₂, both, fails, all-append}
+use Rattle.declare.proofs.Lists.{all-parts}
+use Rattle.declare.proofs.Extension.{activation-same, non-falling-parts, later-start}
 use Rattle.declare.proofs.Arrival.{continuation-parts, comes, coming, coming-continues, coming-eligible}
 use Rattle.declare.proofs.Exactness.{target-kept}
 
 -- ---- closing
 
-closed-decided : (r : Rule) (p : Polarity) (j : ℕ) → closed r (decided p j) ≡ decided p j
+closed-decided : (r : Rule) (es : List Event) (i : ℕ) (p : Polarity) (j : ℕ) → closed r es i (decided p j) ≡ decided p j
 unfolding closed decided
-closed-decided r Positive zero = refl
-closed-decided r Positive (suc j) = refl
-closed-decided r Negative zero = refl
-closed-decided r Negative (suc j) = refl
+closed-decided r es i Positive zero = refl
+closed-decided r es i Positive (suc j) = refl
+closed-decided r es i Negative zero = refl
+closed-decided r es i Negative (suc j) = refl
 
 -- closing gives the verdict of the finished cycle, whatever the rule, the events and the horizon
-pub closed-is-verdict : (r : Rule) (es : List Event) (h i : ℕ) → closed r (standing r es h i) ≡ verdict r es i
+pub closed-is-verdict : (r : Rule) (es : List Event) (h i : ℕ) → closed r es i (standing r es h i) ≡ verdict r es i
 unfolding standing verdict undecided
 closed-is-verdict r es h i =
     go (activationAt r es i) (eqb (target r es i) 0 && canCome r es h i)
     (λ o. eqb-true (target r es i) 0 (and-left (eqb (target r es i) 0) (canCome r es h i) o))
   where
-    go : (a o : Bool) → (o ≡ true → target r es i ≡ 0) → closed r (cond a (cond o Open (decided (polarityOf r) (target r es i))) Idle) ≡ cond a (decided (polarityOf r) (target r es i)) Idle
+    go : (a o : Bool) → (o ≡ true → target r es i ≡ 0) → closed r es i (cond a (cond o Open (decided (polarityOf r) (target r es i))) Idle) ≡ cond a (decided (polarityOf r) (target r es i)) Idle
     go false o f = unfold closed in refl
     go true true f = unfold closed closing in ap (decided (polarityOf r)) (sym (f refl))
-    go true false f = closed-decided r (polarityOf r) (target r es i)
+    go true false f = closed-decided r es i (polarityOf r) (target r es i)
 
 -- ---- more events
 
@@ -53,11 +57,6 @@ last-later : (s t : ℕ) (es : List Event) → s ≤ t → lastFrom s es ≤ las
 unfolding lastFrom
 last-later s t [] l = l
 last-later s t (e ∷ es) l = omega arith
-
--- a horizon that is not before the added events is not before all events
-pub horizon-later : (es added : List Event) (h later : ℕ) → lastTime es ≤ h → lastFrom h added ≤ later → lastTime (es ++ added) ≤ later
-unfolding lastTime
-horizon-later es added h later a b = omega (arith, last-parts 0 es added, last-later (lastFrom 0 es) h added a)
 
 pub longer-cycle : (es added : List Event) (h : ℕ) → nonFalling es ≡ true → lastTime es ≤ h → continuation h added ≡ true → nonFalling (es ++ added) ≡ true
 unfolding nonFalling lastTime
@@ -121,9 +120,24 @@ pub empty-cycle : Cycle []
 unfolding all nonFalling nonFallingFrom
 empty-cycle = record { formed = refl; order = refl; most = omega arith }
 
-pub taken-parts : (es : List Event) (e : Event) → isTaken es e ≡ true → (wellFormed e ≡ true) × (leb (horizon es) (e .time) ≡ true) × (ltb (length es) capacity ≡ true)
+-- nothing is a cause of 3, 7 or 8
+pub admitted : (n h : ℕ) (e : Event) → isAccepted (admits n h e) ≡ true → (wellFormed e ≡ true) × (leb h (e .time) ≡ true) × (ltb n mostEvents ≡ true)
+unfolding isAccepted admits _>>_ require
+admitted n h e = go (wellFormed e) (leb h (e .time)) (ltb n mostEvents)
+  where
+    go : (w t n : Bool) → isAccepted (require w 3 >> (require t 7 >> require n 8)) ≡ true → (w ≡ true) × (t ≡ true) × (n ≡ true)
+    go true true true h = (refl, refl, refl)
+    go true true false h = absurd (false≢true h)
+    go true false n h = absurd (false≢true h)
+    go false t n h = absurd (false≢true h)
+
+admits-all : (n h : ℕ) (e : Event) → wellFormed e ≡ true → leb h (e .time) ≡ true → ltb n mostEvents ≡ true → isAccepted (admits n h e) ≡ true
+unfolding isAccepted admits _>>_ require
+admits-all n h e w t r = rw (w, t, r)
+
+pub taken-parts : (es : List Event) (e : Event) → isTaken es e ≡ true → (wellFormed e ≡ true) × (leb (horizon es) (e .time) ≡ true) × (ltb (length es) mostEvents ≡ true)
 unfolding isTaken
-taken-parts es e h = and₃ h
+taken-parts es e h = admitted (length es) (horizon es) e h
 
 pub taken-continues : (es : List Event) (e : Event) → isTaken es e ≡ true → continuation (horizon es) (e ∷ []) ≡ true
 unfolding continuation nonFallingFrom all
@@ -133,7 +147,7 @@ pub cycle-taken : (es : List Event) (e : Event) → Cycle es → isTaken es e �
 unfolding all
 cycle-taken es e c h =
     let p = taken-parts es e h in
-    let l : length es < capacity = ltb-true (length es) capacity (p .2) in
+    let l : length es < mostEvents = ltb-true (length es) mostEvents (p .2) in
     record {
       formed = all-append wellFormed es (e ∷ []) (c .formed) (both (p .0) refl);
       order = longer-cycle es (e ∷ []) (horizon es) (c .order) (unfold horizon in omega arith) (taken-continues es e h);
@@ -152,3 +166,26 @@ cycle-after es (e ∷ offered) c = cycle-after (cond (isTaken es e) (es ++ e ∷
 pub cycle-of-taken : (offered : List Event) → Cycle (taken offered)
 unfolding taken
 cycle-of-taken offered = cycle-after [] offered empty-cycle
+
+-- ---- all events of a cycle are taken
+
+taken-next : (es : List Event) (e : Event) (more : List Event) → Cycle (es ++ e ∷ more) → isTaken es e ≡ true
+unfolding isTaken horizon nonFalling lastTime
+taken-next es e more s =
+    let formed : (wellFormed e && all wellFormed more) ≡ true = unfold all in and-right (all wellFormed es) (all wellFormed (e ∷ more)) (sym (all-parts wellFormed es (e ∷ more)) ∙ s .formed) in
+    let order : (leb (lastFrom 0 es) (e .time) && nonFallingFrom (e .time) more) ≡ true = unfold nonFallingFrom in and-right (nonFallingFrom 0 es) (nonFallingFrom (lastFrom 0 es) (e ∷ more)) (sym (non-falling-parts 0 es (e ∷ more)) ∙ s .order) in
+    admits-all (length es) (lastFrom 0 es) e (and-left (wellFormed e) (all wellFormed more) formed)
+    (and-left (leb (lastFrom 0 es) (e .time)) (nonFallingFrom (e .time) more) order)
+    (lt-ltb (length es) mostEvents (omega (arith, length-append es (e ∷ more), s .most)))
+
+taken-all : (es more : List Event) → Cycle (es ++ more) → takenAfter es more ≡ es ++ more
+unfolding takenAfter
+taken-all es [] s = sym (append-nil es)
+taken-all es (e ∷ more) s =
+    ap (λ (b : Bool). takenAfter (cond b (es ++ e ∷ []) es) more) (taken-next es e more s)
+    ∙ taken-all (es ++ e ∷ []) more (rw (append-assoc es (e ∷ []) more) s)
+    ∙ append-assoc es (e ∷ []) more
+
+pub taken-cycle : (es : List Event) → Cycle es → taken es ≡ es
+unfolding taken
+taken-cycle es s = taken-all [] es s

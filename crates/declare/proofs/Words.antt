@@ -1,5 +1,5 @@
 -- The definitions compute what document 01's sentences say.
-use mathlib.Core.Path.{_≡_, refl, sym, _∙_, ap}
+use mathlib.Core.Path.{_≡_, refl, sym, subst, _∙_, ap}
 use mathlib.Core.Logic.{_↔_}
 use mathlib.Core.Bool.{Bool, true, false, not, _&&_, true≢false, false≢true}
 use mathlib.Core.List.{List, [], _∷_, _++_}
@@ -10,22 +10,22 @@ use native.Mathlib.Decide.{ℕ-discrete}
 use borrow.Author.Tests.{ltb-true, leb-true, eqb-true, lt-ltb, le-leb, eq-eqb, not-true}
 use lib.Dec.{leb, ltb, eqb}
 use lib.ListN.{length, getD}
-use Rattle.declare.specs.Types.{Event, Test, End, Never, At, Reach, Anywhere, AtOrAfter, AlternateAfter, Next, AtOrBefore, AlternateBefore, Previous, Polarity, Positive, Negative, Rule, Standing, Idle, Open, Fulfilled, Violated}
-use Rattle.declare.specs.Lists.{all, noneBetween, orElse, firstUpTo}
-use Rattle.declare.specs.Comparisons.{passes}
+use Rattle.declare.specs.Types.{Event, Test, End, Never, At, Reach, Anywhere, AtOrAfter, AlternateAfter, Next, AtOrBefore, AlternateBefore, Previous, Polarity, Positive, Negative, Rule}
+use Rattle.declare.specs.Lists.{all, noneBetween}
 use Rattle.declare.specs.Conditions.{met}
-use Rattle.declare.specs.Events.{readingsInRange, wellFormed, nonFallingFrom, nonFalling, lastFrom, lastTime, noEvent, eventAt}
+use Rattle.declare.specs.Events.{wellFormed, nonFallingFrom, nonFalling, lastFrom, lastTime, noEvent, eventAt}
 use Rattle.declare.specs.Rules.{isReading}
-use Rattle.declare.specs.Suits.{activationAt, before, within, between, correlates, suits}
+use Rattle.declare.specs.Suits.{activationAt, beforeEnd, within, between, correlates, suits}
 use Rattle.declare.specs.Templates.{templates, templateOf, inReach, reachOf, polarityOf}
 use Rattle.declare.specs.Verdicts.{eligible, target, decided, verdict}
 use Rattle.declare.specs.Continuations.{horizon, continuation}
 use Rattle.declare.specs.Reachability.{satisfiable}
 use Rattle.declare.specs.Standings.{isFulfilled, isViolated}
 use Rattle.declare.specs.Words.{NeverFall, Before, Suits, NoActivationBetween, Eligible, Twelve, SomeEligible, NoneEligible, Names, targetIn, Judged, Satisfiable, Words}
-use Rattle.declare.proofs.Booleans.{and-left, and-right, and₂, and₃, both}
+use Rattle.declare.proofs.Booleans.{and-left, and-right, and₂, both}
 use Rattle.declare.proofs.Extension.{non-falling-parts}
 use Rattle.declare.proofs.Satisfiability.{sound, complete, bringing, bringing-in-range}
+use Rattle.declare.proofs.Targets.{named}
 use Rattle.declare.proofs.Exactness.{verdict-is}
 
 -- ---- times
@@ -66,8 +66,8 @@ times es = (to, from)
 
 -- ---- suits
 
-before-reads : (d : ℕ) (u : End) → (before d u ≡ true) ↔ Before d u
-unfolding before
+before-reads : (d : ℕ) (u : End) → (beforeEnd d u ≡ true) ↔ Before d u
+unfolding beforeEnd
 before-reads d Never = ((λ _. tt), (λ _. refl))
 before-reads d (At b) = (ltb-true d b, lt-ltb d b)
 
@@ -78,11 +78,11 @@ suited r a e = (to, from)
     d : ℕ
     d = between (a .time) (e .time)
 
-    to : ((eqb (e .activity) (r .target) && met (r .correlation) a e) && (leb (r .window .from) d && before d (r .window .until))) ≡ true → Suits r a e
+    to : ((eqb (e .activity) (r .target) && met (r .correlation) a e) && (leb (r .window .from) d && beforeEnd d (r .window .until))) ≡ true → Suits r a e
     to h =
-        let p : ((eqb (e .activity) (r .target) && met (r .correlation) a e) ≡ true) × ((leb (r .window .from) d && before d (r .window .until)) ≡ true) = and₂ h in
+        let p : ((eqb (e .activity) (r .target) && met (r .correlation) a e) ≡ true) × ((leb (r .window .from) d && beforeEnd d (r .window .until)) ≡ true) = and₂ h in
         let q : (eqb (e .activity) (r .target) ≡ true) × (met (r .correlation) a e ≡ true) = and₂ (p .0) in
-        let w : (leb (r .window .from) d ≡ true) × (before d (r .window .until) ≡ true) = and₂ (p .1) in
+        let w : (leb (r .window .from) d ≡ true) × (beforeEnd d (r .window .until) ≡ true) = and₂ (p .1) in
         record {
           has-target-activity = eqb-true (e .activity) (r .target) (q .0);
           meets-correlation = q .1;
@@ -90,7 +90,7 @@ suited r a e = (to, from)
           below-b = before-reads d (r .window .until) .0 (w .1);
         }
 
-    from : Suits r a e → ((eqb (e .activity) (r .target) && met (r .correlation) a e) && (leb (r .window .from) d && before d (r .window .until))) ≡ true
+    from : Suits r a e → ((eqb (e .activity) (r .target) && met (r .correlation) a e) && (leb (r .window .from) d && beforeEnd d (r .window .until))) ≡ true
     from s =
         both (both (eq-eqb (e .activity) (r .target) (s .has-target-activity)) (s .meets-correlation))
         (both (le-leb (r .window .from) d (s .at-least-a)) (before-reads d (r .window .until) .1 (s .below-b)))
@@ -165,38 +165,9 @@ module _ (r : Rule) (es : List Event) (i j : ℕ) where
         not-chain-precedence = eligible-as 12 Previous (j + 1 ≡ i) refl (eqb-true (j + 1) i, eq-eqb (j + 1) i);
       }
 
--- ---- the target
-
--- j is the earliest of 1 to n that passes, or 0 if none does
-abbrev pub Earliest : (ℕ → Bool) → ℕ → ℕ → Type 0
-Earliest p n zero = (k : ℕ) → 1 ≤ k → k ≤ n → p k ≡ false
-Earliest p n (suc j) = (suc j ≤ n) × (p (suc j) ≡ true) × ((k : ℕ) → 1 ≤ k → k < suc j → p k ≡ false)
-
-pub earliest : (p : ℕ → Bool) (n : ℕ) → Earliest p n (firstUpTo p n)
-unfolding firstUpTo orElse
-earliest p zero = λ k a b. absurd (omega arith)
-earliest p (suc n) = step (firstUpTo p n) (earliest p n) (p (suc n)) refl
-  where
-    last : Earliest p n 0 → p (suc n) ≡ false → (k : ℕ) → 1 ≤ k → k ≤ suc n → Dec (k ≡ suc n) → p k ≡ false
-    last e q k a b (yes z) = rw z q
-    last e q k a b (no z) = e k a (omega arith)
-
-    step : (f : ℕ) → Earliest p n f → (t : Bool) → p (suc n) ≡ t → Earliest p (suc n) (orElse f t (suc n))
-    step zero e true q = (omega arith, q, λ k a b. e k a (omega arith))
-    step zero e false q = λ k a b. last e q k a b (ℕ-discrete k (suc n))
-    step (suc j) e t q = (omega arith, e .1, e .2)
-
-pub named : (r : Rule) (es : List Event) (i : ℕ) → Names r es i (target r es i)
-unfolding target
-named r es i = go (firstUpTo (eligible r es i) (length es)) (earliest (eligible r es i) (length es))
-  where
-    go : (j : ℕ) → Earliest (eligible r es i) (length es) j → Names r es i j
-    go zero e = e
-    go (suc j) e = e
-
 -- ---- the verdict
 
-positive : (code : ℕ) → 1 ≤ code → code ≤ 7 → (templateOf code) .polarity ≡ Positive
+pub positive : (code : ℕ) → 1 ≤ code → code ≤ 7 → (templateOf code) .polarity ≡ Positive
 unfolding templateOf templates
 positive zero a b = absurd (not-suc-le-zero a)
 positive (suc zero) a b = refl
@@ -208,14 +179,16 @@ positive (suc (suc (suc (suc (suc (suc zero)))))) a b = refl
 positive (suc (suc (suc (suc (suc (suc (suc zero))))))) a b = refl
 positive (suc (suc (suc (suc (suc (suc (suc (suc k)))))))) a b = absurd (omega arith)
 
-negative : (k : ℕ) → k < 5 → (templateOf (8 + k)) .polarity ≡ Negative
-unfolding templateOf templates
-negative zero a = refl
-negative (suc zero) a = refl
-negative (suc (suc zero)) a = refl
-negative (suc (suc (suc zero))) a = refl
-negative (suc (suc (suc (suc zero)))) a = refl
-negative (suc (suc (suc (suc (suc k))))) a = absurd (omega arith)
+pub negative : (code : ℕ) → 8 ≤ code → code ≤ 12 → (templateOf code) .polarity ≡ Negative
+negative code a b = subst (λ (k : ℕ). (templateOf k) .polarity ≡ Negative) (omega arith) (from-8 (code - 8) (omega arith))
+  where
+    from-8 : (k : ℕ) → k < 5 → (templateOf (8 + k)) .polarity ≡ Negative
+    from-8 zero a = unfold templateOf templates in refl
+    from-8 (suc zero) a = unfold templateOf templates in refl
+    from-8 (suc (suc zero)) a = unfold templateOf templates in refl
+    from-8 (suc (suc (suc zero))) a = unfold templateOf templates in refl
+    from-8 (suc (suc (suc (suc zero)))) a = unfold templateOf templates in refl
+    from-8 (suc (suc (suc (suc (suc k))))) a = absurd (omega arith)
 
 target-in : (p : Polarity) (j : ℕ) → targetIn (decided p j) ≡ j
 unfolding targetIn decided
@@ -232,7 +205,8 @@ module _ (r : Rule) (es : List Event) (i : ℕ) where
   some : (j : ℕ) → Names r es i (suc j) → SomeEligible r es i
   some j n = (suc j, omega arith, n .0, n .1)
 
-  -- a test of the target that passes just where there is one, and one that passes just where there is none
+  -- a test of the target that passes just where there is one, and one that passes just where there
+  -- is none
   tells-some : (t : ℕ → Bool) → t 0 ≡ false → ((j : ℕ) → t (suc j) ≡ true) → (j : ℕ) → Names r es i j → (t j ≡ true) ↔ SomeEligible r es i
   tells-some t a b zero n = ((λ h. absurd (false≢true (sym a ∙ h))), (λ s. absurd (not-both s n)))
   tells-some t a b (suc j) n = ((λ _. some j n), (λ _. b j))
@@ -247,18 +221,13 @@ module _ (r : Rule) (es : List Event) (i : ℕ) where
       record {
         fulfilled = λ a b. rw (with-polarity (positive (r .code) a b)) (tells-some (λ j. isFulfilled (decided Positive j)) refl (λ j. refl) (target r es i) (named r es i));
         violated = λ a b. rw (with-polarity (positive (r .code) a b)) (tells-none (λ j. isViolated (decided Positive j)) refl (λ j. refl) (target r es i) (named r es i));
-        negative-violated = λ a b. rw (with-polarity (negatively a b)) (tells-some (λ j. isViolated (decided Negative j)) refl (λ j. refl) (target r es i) (named r es i));
-        negative-fulfilled = λ a b. rw (with-polarity (negatively a b)) (tells-none (λ j. isFulfilled (decided Negative j)) refl (λ j. refl) (target r es i) (named r es i));
+        negative-violated = λ a b. rw (with-polarity (negative (r .code) a b)) (tells-some (λ j. isViolated (decided Negative j)) refl (λ j. refl) (target r es i) (named r es i));
+        negative-fulfilled = λ a b. rw (with-polarity (negative (r .code) a b)) (tells-none (λ j. isFulfilled (decided Negative j)) refl (λ j. refl) (target r es i) (named r es i));
         names = rw (verdict-is r es i act, target-in (polarityOf r) (target r es i)) (named r es i);
       }
     where
       with-polarity : {p : Polarity} → polarityOf r ≡ p → verdict r es i ≡ decided p (target r es i)
       with-polarity q = verdict-is r es i act ∙ ap (λ (p : Polarity). decided p (target r es i)) q
-
-      negatively : 8 ≤ r .code → r .code ≤ 12 → polarityOf r ≡ Negative
-      negatively a b =
-          let e : 8 + (r .code - 8) ≡ r .code = omega arith in
-          ap (λ (c : ℕ). (templateOf c) .polarity) (sym e) ∙ negative (r .code - 8) (omega arith)
 
 -- ---- continuations
 

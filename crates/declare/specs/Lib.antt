@@ -1,18 +1,21 @@
 -- What document 01 says of events, rules and verdicts, in its order; then what is proved of it.
 pub mod Types
 pub mod Lists
+pub mod Limits
 pub mod Comparisons
 pub mod Conditions
 pub mod Events
 pub mod Rules
+pub mod Slots
 pub mod Suits
 pub mod Templates
 pub mod Standings
 pub mod Verdicts
 pub mod Continuations
 pub mod Reachability
-pub mod Steps
 pub mod Refusals
+pub mod Answers
+pub mod Steps
 pub mod Exactness
 pub mod Words
 pub mod EdgeCycles

@@ -1,7 +1,8 @@
--- Document 01's sentences as statements over positions, beside the definitions that compute. Each record is proved in proofs/Words.
+-- Document 01's sentences as statements over positions, beside the definitions that compute. Each
+-- record is proved in proofs/Words.
 use mathlib.Core.Path.{_≡_}
 use mathlib.Core.Logic.{_↔_}
-use mathlib.Core.Bool.{Bool, true, false, _&&_}
+use mathlib.Core.Bool.{true, false, _&&_}
 use mathlib.Core.List.{List, _++_}
 use Prim.Native.Nat.{ℕ, zero, suc, _+_, _≤_, _<_}
 use lib.ListN.{length}
@@ -26,8 +27,8 @@ abbrev pub Before : ℕ → End → Type 0
 Before d Never = Unit {0}
 Before d (At b) = d < b
 
--- "event j suits activation i if it has the target activity, meets the correlation against i's readings, and the later time of the
--- two minus the earlier is at least a and below b"
+-- "event j suits activation i if it has the target activity, meets the correlation against i's
+-- readings, and the later time of the two minus the earlier is at least a and below b"
 pub record Suits (r : Rule) (a e : Event) : Type 0 where
   pub has-target-activity : e .activity ≡ r .target
   pub meets-correlation : met (r .correlation) a e ≡ true
@@ -78,7 +79,8 @@ targetIn Open = 0
 targetIn (Fulfilled j) = j
 targetIn (Violated j) = j
 
--- an activation of a finished cycle: 1 to 7 "are fulfilled if an eligible j exists"; 8 to 12 are "violated if one exists"
+-- an activation of a finished cycle: 1 to 7 "are fulfilled if an eligible j exists"; 8 to 12 are
+-- "violated if one exists"
 pub record Judged (r : Rule) (es : List Event) (i : ℕ) : Type 0 where
   pub fulfilled : 1 ≤ r .code → r .code ≤ 7 → (isFulfilled (verdict r es i) ≡ true) ↔ SomeEligible r es i
   pub violated : 1 ≤ r .code → r .code ≤ 7 → (isViolated (verdict r es i) ≡ true) ↔ NoneEligible r es i
@@ -96,6 +98,7 @@ pub record Words : Type 0 where
   pub twelve : (r : Rule) (es : List Event) (i j : ℕ) → Twelve r es i j
   pub named : (r : Rule) (es : List Event) (i : ℕ) → Names r es i (target r es i)
   pub judged : (r : Rule) (es : List Event) (i : ℕ) → activationAt r es i ≡ true → Judged r es i
-  -- of a cycle whose times do not fall, the continuations are what makes it a longer such cycle, of well-formed events
+  -- of a cycle whose times do not fall, the continuations are what makes it a longer such cycle, of
+  -- well-formed events
   pub continued : (es added : List Event) → nonFalling es ≡ true → continuation (horizon es) added ≡ (nonFalling (es ++ added) && all wellFormed added)
   pub satisfied : (ts : List Test) → all (λ t. isReading (t .reading)) ts ≡ true → (satisfiable ts ≡ true) ↔ Satisfiable ts

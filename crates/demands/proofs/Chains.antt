@@ -1,115 +1,139 @@
 -- Causes looked for in order: the first that holds is told, and if none holds the answer is a
--- value. By induction over the causes. The answer of a line is such a chain, piece by piece: each
--- check of a `do` block is one cause, or the causes of a field.
+-- value. Each check of a `do` block is one cause, or the causes of a field: so the causes of a
+-- block are read off it check by check.
 use mathlib.Core.Path.{_≡_, refl, sym, ap, _∙_}
-use mathlib.Core.Logic.{_⊎_, inl, inr}
-use mathlib.Core.Bool.{Bool, true, false, not, cond, _&&_, false≢true}
+use mathlib.Core.Logic.{_↔_, _⊎_, inl, inr}
+use mathlib.Core.Bool.{Bool, true, false, not, _&&_, false≢true}
 use mathlib.Core.List.{List, [], _∷_, _++_}
 use Prim.Native.Nat.{ℕ}
 use Rattle.declare.specs.declared.Refusal.{Refusal}
 use Rattle.declare.specs.Lists.{all}
-use Rattle.declare.specs.Refusals.{Returned, number-and-line, returned}
-use Rattle.run.specs.Replies.{Reply, accepted, refused}
-use Rattle.line.specs.Answers.{Answer, Of, No, _>>=_, _>>_, require}
+use Rattle.declare.specs.Refusals.{numberOf}
+use Rattle.declare.specs.Answers.{Answer, accepted, refused, _>>=_, _>>_, require}
+use Rattle.declare.proofs.Answers.{no-of}
 use Rattle.demands.specs.Causes.{Cause, cause, First, noneHolds}
 
--- ---- a chain of tests
+unfoldable pub inOrder : List Cause → Answer (Unit {0})
+inOrder [] = accepted tt
+inOrder (c ∷ later) = do
+  require (not (c .holds)) (numberOf (c .refusal))
+  inOrder later
 
-unfoldable pub inOrder : {A : Type 0} → ℕ → List Cause → A → Reply A
-inOrder line [] a = accepted a
-inOrder line (c ∷ later) a = cond (c .holds) (refused (returned (c .refusal) line)) (inOrder line later a)
+-- an answer without its value
+unfoldable pub checked : {A : Type 0} → Answer A → Answer (Unit {0})
+checked (accepted a) = accepted tt
+checked (refused n) = refused n
 
-returnedBy : {A : Type 0} → Returned → Reply A → Returned
-returnedBy n (accepted a) = n
-returnedBy n (refused m) = m
+-- the answer has these causes
+abbrev pub Has : {A : Type 0} → Answer A → List Cause → Type 0
+Has x causes = checked x ≡ inOrder causes
 
-isRefused : {A : Type 0} → Reply A → Bool
-isRefused (accepted a) = false
-isRefused (refused n) = true
+-- ---- check by check
 
-pub differ : {A : Type 0} {a : A} {n : Returned} → accepted a ≡ refused n → ⊥
-unfolding isRefused
-differ e = false≢true (ap isRefused e)
+pub has-none : {A : Type 0} (a : A) → Has (accepted a) []
+unfolding checked inOrder
+has-none a = refl
 
-pub same : {A : Type 0} {m n : Returned} → _≡_ {A = Reply A} (refused m) (refused n) → m ≡ n
-unfolding returnedBy
-same {m = m} e = ap (returnedBy m) e
+pub has-one : {B : Type 0} (test : Bool) (refusal : Refusal) (n : ℕ) (x : Answer B) (later : List Cause) → numberOf refusal ≡ n → Has x later → Has (require test n >> x) (cause refusal (not test) ∷ later)
+unfolding checked inOrder require _>>_
+has-one true refusal n x later r h = h
+has-one false refusal n x later r h = ap refused (sym r)
 
-module _ {A : Type 0} (line : ℕ) (a : A) where
-  pub to-first : (causes : List Cause) (n : Returned) → inOrder line causes a ≡ refused n → First line causes n
-  unfolding inOrder First
-  to-first [] n e = absurd (differ e)
-  to-first (c ∷ later) n e = go (c .holds) refl (to-first later n) e
-    where
-      go : (h : Bool) → c .holds ≡ h → (inOrder line later a ≡ refused n → First line later n) → cond h (refused (returned (c .refusal) line)) (inOrder line later a) ≡ refused n → ((c .holds ≡ true) × (returned (c .refusal) line ≡ n)) ⊎ ((c .holds ≡ false) × First line later n)
-      go true q more p = inl (q, same p)
-      go false q more p = inr (q, more p)
+pub has-unless : {B : Type 0} (holds : Bool) (refusal : Refusal) (n : ℕ) (x : Answer B) (later : List Cause) → numberOf refusal ≡ n → Has x later → Has (require (not holds) n >> x) (cause refusal holds ∷ later)
+unfolding checked inOrder require _>>_
+has-unless true refusal n x later r h = ap refused (sym r)
+has-unless false refusal n x later r h = h
 
-  pub from-first : (causes : List Cause) (n : Returned) → First line causes n → inOrder line causes a ≡ refused n
-  unfolding inOrder First
-  from-first [] n f = absurd f
-  from-first (c ∷ later) n (inl (h, e)) = rw h (ap refused e)
-  from-first (c ∷ later) n (inr (h, f)) = rw h (from-first later n f)
+pub has-only : (holds : Bool) (refusal : Refusal) (n : ℕ) → numberOf refusal ≡ n → Has (require (not holds) n) (cause refusal holds ∷ [])
+unfolding checked inOrder require _>>_
+has-only true refusal n r = ap refused (sym r)
+has-only false refusal n r = refl
 
-  pub to-none : (causes : List Cause) (b : A) → inOrder line causes a ≡ accepted b → noneHolds causes ≡ true
-  unfolding inOrder noneHolds all
-  to-none [] b e = refl
-  to-none (c ∷ later) b e = go (c .holds) (to-none later b) e
-    where
-      go : (h : Bool) → (inOrder line later a ≡ accepted b → noneHolds later ≡ true) → cond h (refused (returned (c .refusal) line)) (inOrder line later a) ≡ accepted b → (not h && noneHolds later) ≡ true
-      go true more p = absurd (differ (sym p))
-      go false more p = more p
-
-  pub from-none : (causes : List Cause) → noneHolds causes ≡ true → inOrder line causes a ≡ accepted a
-  unfolding inOrder noneHolds all
-  from-none [] e = refl
-  from-none (c ∷ later) e = go (c .holds) (from-none later) e
-    where
-      go : (h : Bool) → (noneHolds later ≡ true → inOrder line later a ≡ accepted a) → (not h && noneHolds later) ≡ true → cond h (refused (returned (c .refusal) line)) (inOrder line later a) ≡ accepted a
-      go true more p = absurd (false≢true p)
-      go false more p = more p
-
--- one chain after another
-followed : {A : Type 0} → Reply A → Reply A → Reply A
-followed (accepted a) y = y
-followed (refused n) y = refused n
-
-in-order-append : {A : Type 0} (line : ℕ) (a : A) (causes later : List Cause) → inOrder line (causes ++ later) a ≡ followed (inOrder line causes a) (inOrder line later a)
-unfolding inOrder followed
-in-order-append line a [] later = refl
-in-order-append line a (c ∷ causes) later = go (c .holds) (in-order-append line a causes later)
+in-order-append : (causes later : List Cause) → inOrder (causes ++ later) ≡ (inOrder causes >> inOrder later)
+unfolding inOrder _>>_
+in-order-append [] later = refl
+in-order-append (c ∷ causes) later = go (not (c .holds)) (in-order-append causes later)
   where
-    go : (h : Bool) → inOrder line (causes ++ later) a ≡ followed (inOrder line causes a) (inOrder line later a) → cond h (refused (returned (c .refusal) line)) (inOrder line (causes ++ later) a) ≡ followed (cond h (refused (returned (c .refusal) line)) (inOrder line causes a)) (inOrder line later a)
-    go true e = refl
-    go false e = e
+    go : (t : Bool) → inOrder (causes ++ later) ≡ (inOrder causes >> inOrder later) → (require t (numberOf (c .refusal)) >> inOrder (causes ++ later)) ≡ ((require t (numberOf (c .refusal)) >> inOrder causes) >> inOrder later)
+    go true e = unfold require _>>_ in e
+    go false e = unfold require _>>_ in refl
 
--- ---- the answer of a line
+pub has-then : {A B : Type 0} (x : Answer A) (f : A → Answer B) (causes later : List Cause) → Has x causes → ((a : A) → x ≡ accepted a → Has (f a) later) → Has (x >>= f) (causes ++ later)
+unfolding checked _>>=_ _>>_
+has-then (accepted a) f causes later h more = more a refl ∙ ap (λ (y : Answer (Unit {0})). y >> inOrder later) h ∙ sym (in-order-append causes later)
+has-then (refused n) f causes later h more = ap (λ (y : Answer (Unit {0})). y >> inOrder later) h ∙ sym (in-order-append causes later)
 
--- a refusal comes with the line
-unfoldable pub lineReply : {A : Type 0} → ℕ → Answer A → Reply (Unit {0})
-lineReply line (Of a) = accepted tt
-lineReply line (No n) = refused (number-and-line n line)
+-- a block whose checks give no value
+pub has-after : {B : Type 0} (x : Answer (Unit {0})) (y : Answer B) (causes later : List Cause) → Has x causes → Has y later → Has (x >> y) (causes ++ later)
+unfolding checked _>>_
+has-after (accepted u) y causes later h k = k ∙ ap (λ (z : Answer (Unit {0})). z >> inOrder later) h ∙ sym (in-order-append causes later)
+has-after (refused n) y causes later h k = ap (λ (z : Answer (Unit {0})). z >> inOrder later) h ∙ sym (in-order-append causes later)
 
--- the causes of an answer
-abbrev pub Has : {A : Type 0} → ℕ → Answer A → List Cause → Type 0
-Has line x causes = lineReply line x ≡ inOrder line causes tt
+-- ---- what the causes say of the answer
 
-module _ (line : ℕ) where
-  pub has-none : {A : Type 0} (a : A) → Has line (Of a) []
-  unfolding lineReply inOrder
-  has-none a = refl
+pub same : {A : Type 0} {m n : ℕ} → _≡_ {A = Answer A} (refused m) (refused n) → m ≡ n
+same e = cc
 
-  pub has-one : {B : Type 0} (test : Bool) (refusal : Refusal) (n : ℕ) (x : Answer B) (later : List Cause) → returned refusal line ≡ number-and-line n line → Has line x later → Has line (require test n >> x) (cause refusal (not test) ∷ later)
-  unfolding lineReply inOrder require _>>_
-  has-one true refusal n x later r h = h
-  has-one false refusal n x later r h = ap refused (sym r)
+to-first : (causes : List Cause) (n : ℕ) → inOrder causes ≡ refused n → First causes n
+unfolding inOrder First
+to-first [] n e = absurd (no-of (sym e))
+to-first (c ∷ later) n e = go (c .holds) refl (to-first later n) e
+  where
+    go : (h : Bool) → c .holds ≡ h → (inOrder later ≡ refused n → First later n) → (require (not h) (numberOf (c .refusal)) >> inOrder later) ≡ refused n → ((c .holds ≡ true) × (numberOf (c .refusal) ≡ n)) ⊎ ((c .holds ≡ false) × First later n)
+    go true q more p = unfold require _>>_ in inl (q, same p)
+    go false q more p = unfold require _>>_ in inr (q, more p)
 
-  pub has-unless : {B : Type 0} (holds : Bool) (refusal : Refusal) (n : ℕ) (x : Answer B) (later : List Cause) → returned refusal line ≡ number-and-line n line → Has line x later → Has line (require (not holds) n >> x) (cause refusal holds ∷ later)
-  unfolding lineReply inOrder require _>>_
-  has-unless true refusal n x later r h = ap refused (sym r)
-  has-unless false refusal n x later r h = h
+from-first : (causes : List Cause) (n : ℕ) → First causes n → inOrder causes ≡ refused n
+unfolding inOrder First require _>>_
+from-first [] n f = absurd f
+from-first (c ∷ later) n (inl (h, e)) = rw h (ap refused e)
+from-first (c ∷ later) n (inr (h, f)) = rw h (from-first later n f)
 
-  pub has-then : {A B : Type 0} (x : Answer A) (f : A → Answer B) (causes later : List Cause) → Has line x causes → ((a : A) → x ≡ Of a → Has line (f a) later) → Has line (x >>= f) (causes ++ later)
-  unfolding lineReply _>>=_ followed
-  has-then (Of a) f causes later h more = more a refl ∙ ap (λ (y : Reply (Unit {0})). followed y (inOrder line later tt)) h ∙ sym (in-order-append line tt causes later)
-  has-then (No n) f causes later h more = ap (λ (y : Reply (Unit {0})). followed y (inOrder line later tt)) h ∙ sym (in-order-append line tt causes later)
+to-none : (causes : List Cause) → inOrder causes ≡ accepted tt → noneHolds causes ≡ true
+unfolding inOrder noneHolds all
+to-none [] e = refl
+to-none (c ∷ later) e = go (c .holds) (to-none later) e
+  where
+    go : (h : Bool) → (inOrder later ≡ accepted tt → noneHolds later ≡ true) → (require (not h) (numberOf (c .refusal)) >> inOrder later) ≡ accepted tt → (not h && noneHolds later) ≡ true
+    go true more p = unfold require _>>_ in absurd (no-of p)
+    go false more p = unfold require _>>_ in more p
+
+from-none : (causes : List Cause) → noneHolds causes ≡ true → inOrder causes ≡ accepted tt
+unfolding inOrder noneHolds all
+from-none [] e = refl
+from-none (c ∷ later) e = go (c .holds) (from-none later) e
+  where
+    go : (h : Bool) → (noneHolds later ≡ true → inOrder later ≡ accepted tt) → (not h && noneHolds later) ≡ true → (require (not h) (numberOf (c .refusal)) >> inOrder later) ≡ accepted tt
+    go true more p = absurd (false≢true p)
+    go false more p = unfold require _>>_ in more p
+
+checked-refused : {A : Type 0} (x : Answer A) (n : ℕ) → checked x ≡ refused n → x ≡ refused n
+unfolding checked
+checked-refused (accepted a) n e = absurd (no-of (sym e))
+checked-refused (refused m) n e = ap refused (same e)
+
+checked-accepted : {A : Type 0} (x : Answer A) → checked x ≡ accepted tt → (a : A) × (x ≡ accepted a)
+unfolding checked
+checked-accepted (accepted a) e = (a, refl)
+checked-accepted (refused m) e = absurd (no-of e)
+
+module _ {A : Type 0} (x : Answer A) (causes : List Cause) (has : Has x causes) where
+  -- refused with n exactly if n is the number of the first cause that holds
+  pub refuses-first : (n : ℕ) → (x ≡ refused n) ↔ First causes n
+  unfolding checked
+  refuses-first n = (
+    (λ e. to-first causes n (sym has ∙ ap checked e)),
+    (λ f. checked-refused x n (has ∙ from-first causes n f)),
+  )
+
+  -- accepted exactly if none holds
+  pub accepts-none : ((a : A) × (x ≡ accepted a)) ↔ (noneHolds causes ≡ true)
+  unfolding checked
+  accepts-none = (
+    (λ p. to-none causes (sym has ∙ ap checked (p .1))),
+    (λ e. checked-accepted x (has ∙ from-none causes e)),
+  )
+
+-- not both: a first cause, and none
+pub first-none : (causes : List Cause) (n : ℕ) → First causes n → noneHolds causes ≡ true → ⊥
+first-none causes n f e = no-of (sym (from-first causes n f) ∙ from-none causes e)

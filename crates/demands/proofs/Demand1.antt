@@ -1,93 +1,121 @@
--- Each call on records is a chain of causes. So is each line of a text (Lines), and a reader goes
--- from line to line (Texts).
+-- The causes of each call on records are read off its definition, check by check. So are those of
+-- each line of a text (Lines), and a reader goes from line to line (Texts).
 use mathlib.Core.Path.{_≡_, refl, sym, ap, _∙_}
 use mathlib.Core.Logic.{_↔_}
-use mathlib.Core.Bool.{Bool, true, false, not, cond}
-use mathlib.Core.List.{List}
+use mathlib.Core.Bool.{not, _&&_}
+use mathlib.Core.List.{List, [], _∷_}
 use Prim.Native.Nat.{ℕ}
 use native.Mathlib.Omega.{arith}
+use lib.Dec.{leb, ltb}
 use Rattle.declare.specs.declared.Event.{Event}
 use Rattle.declare.specs.declared.Rule.{Rule}
+use Rattle.declare.specs.declared.Table.{Table}
+use Rattle.declare.specs.declared.Refusal.the-variants.{OutOfRange, TimeFalls, TooMany, WrongPhase, NotFound, InvalidRecord, TallyOverflow}
 use Rattle.declare.specs.Lists.{any}
-use Rattle.declare.specs.Refusals.{Returned, number, returned, hasLine, numberOf}
+use Rattle.declare.specs.Limits.{mostEvents}
+use Rattle.declare.specs.Events.{wellFormed}
+use Rattle.declare.specs.Rules.{validTable}
+use Rattle.declare.specs.Refusals.{numberOf}
+use Rattle.declare.specs.Answers.{Answer, accepted, _>>=_, afterCall}
+use Rattle.declare.specs.Steps.{admits}
+use Rattle.declare.proofs.Lists.{leb-not, ltb-not}
+use Rattle.declare.proofs.Answers.{of-of, required, after-refused}
+use Rattle.standings.specs.declared.totals.Totals.{Totals}
 use Rattle.run.specs.declared.Run.{Run}
-use Rattle.run.specs.Replies.{Reply, accepted, refused, runAfter}
-use Rattle.run.specs.Start.{newRun, startOf}
-use Rattle.run.specs.Take.{appended, judgedRun, takeOf}
-use Rattle.run.specs.Close.{closedRun, closeOf}
-use Rattle.run.specs.Queries.{oneOf, standingOf, totalsBy, totalsOf}
-use Rattle.run.specs.declared.Totals.{Totals}
-use Rattle.run.specs.Records.{validRun}
-use Rattle.judge.specs.Cells.{standingIn}
+use Rattle.run.specs.Records.{horizonOf, totalsIn, validRun}
+use Rattle.run.specs.Start.{startOf}
+use Rattle.run.specs.Take.{takeOf}
+use Rattle.run.specs.Close.{closeOf}
+use Rattle.run.specs.Queries.{oneOf, standingOf, totalsOf}
 use Rattle.tally.specs.declared.Tally.{Tally}
 use Rattle.tally.specs.declared.Counted.{Counted}
-use Rattle.tally.specs.declared.Answer.{Answer}
-use Rattle.tally.specs.Tally.{fits, added, countsOf, withCounts, absorbOf, answerReply, tallyAfter, Counts, Absorbs}
+use Rattle.tally.specs.declared.Outcome.{Outcome}
+use Rattle.tally.specs.Tally.{hasRoomFor, countsOf, withTotals, withCounted, absorbOf, tallyAnswer, Counts, Absorbs}
 use Rattle.line.specs.Texts.{Records, All, Stop}
 use Rattle.cycle_text.specs.Cycle.{eventAfter, cycleTextOf}
 use Rattle.rule_text.specs.Rules.{ruleAfter, rulesTextOf}
 use Rattle.line.proofs.Texts.{stop-all}
 use Rattle.notebook.specs.declared.Text.{Text}
 use Rattle.notebook.specs.declared.Text.the-variants.{Rules, Cycle}
-use Rattle.notebook.specs.Notebook.{accepted as readAs, refused as notRead, notebookOf, finishedOf, readWith}
-use Rattle.demands.specs.Causes.{Cause}
+use Rattle.notebook.specs.Notebook.{readAs, notRead, notebookOf, finishedOf, readWith}
+use Rattle.demands.specs.Causes.{Cause, cause}
 use Rattle.demands.specs.LineCauses.{eventCauses, ruleCauses}
 use Rattle.demands.specs.Texts.{Reads}
 use Rattle.demands.specs.Demand1.{Refuses, startCauses, takeCauses, closeCauses, standingCauses, totalsCauses, absorbCauses, ReadsBoth, Demand1}
-use Rattle.demands.proofs.Chains.{inOrder, to-first, from-first, to-none, from-none}
+use Rattle.demands.proofs.Chains.{Has, has-none, has-one, has-unless, has-only, has-then, has-after, refuses-first, accepts-none}
 use Rattle.demands.proofs.Texts.{reads}
 use Rattle.demands.proofs.Lines.{has-event, has-rule, eventNumbers, event-numbered, ruleNumbers, rule-numbered}
 
-chain : {A : Type 0} (a : A) (causes : List Cause) → Refuses causes (inOrder 0 causes a)
-chain a causes =
-    record {
-      refuses = λ n. (to-first 0 a causes n, from-first 0 a causes n);
-      accepts = (λ p. to-none 0 a causes (p .0) (p .1), λ e. (a, from-none 0 a causes e));
-    }
+-- an answer with these causes
+refuses : {A : Type 0} (answer : Answer A) (causes : List Cause) → Has answer causes → Refuses causes answer
+refuses answer causes h = record { refuses = refuses-first answer causes h; accepts = accepts-none answer causes h }
 
--- ---- the calls are such chains
+-- ---- the calls on records
 
-keeps : (r : Run) (reply : Reply Run) (n : Returned) → reply ≡ refused n → runAfter r reply ≡ r
-unfolding runAfter
-keeps r reply n e = ap (runAfter r) e
+has-start : (t : Table) → Has (startOf t) (startCauses t)
+unfolding startOf startCauses numberOf
+has-start t = has-one (validTable t) InvalidRecord 11 _ [] refl (has-none _)
 
--- ---- the tally
-
-module _ (r : Run) (rule : ℕ) (t : Tally) where
-  abbrev totals : Totals
-  totals = totalsBy (standingIn (r .cells) rule) (r .count)
-
-  absorb-chain : absorbOf r rule t ≡ inOrder 0 (absorbCauses r rule t) (added t totals)
-  unfolding absorbOf countsOf absorbCauses inOrder returned hasLine numberOf
-  absorb-chain = go (validRun r) (oneOf (r .table .count) rule) (r .closed)
+module _ (r : Run) where
+  has-take : (e : Event) → Has (takeOf r e) (takeCauses r e)
+  unfolding takeOf takeCauses numberOf
+  has-take e =
+      has-one (validRun r) InvalidRecord 11 _ _ refl (has-unless (r .closed) WrongPhase 9 _ _ refl (has-after (admits (r .count) (horizonOf r) e) _ _ [] has-admits (has-none _)))
     where
-      go : (v o c : Bool) → withCounts t (cond (not v) (refused (number 11)) (cond (not o) (refused (number 10)) (cond (not c) (refused (number 9)) (accepted totals)))) ≡ cond (not v) (refused (number 11)) (cond (not o) (refused (number 10)) (cond (not c) (refused (number 9)) (cond (not (fits t totals)) (refused (number 14)) (accepted (added t totals)))))
-      go false o c = unfold withCounts in refl
-      go true false c = unfold withCounts in refl
-      go true true false = unfold withCounts in refl
-      go true true true = unfold withCounts in refl
+      has-admits : Has (admits (r .count) (horizonOf r) e) (cause OutOfRange (not (wellFormed e)) ∷ cause TimeFalls (ltb (e .time) (horizonOf r)) ∷ cause TooMany (leb mostEvents (r .count)) ∷ [])
+      has-admits =
+          unfold admits in
+          rw (leb-not (horizonOf r) (e .time), ltb-not (r .count) mostEvents)
+          (has-one (wellFormed e) OutOfRange 3 _ _ refl (has-unless (ltb (e .time) (horizonOf r)) TimeFalls 7 _ _ refl (has-only (leb mostEvents (r .count)) TooMany 8 refl)))
 
-  absorb-refuses : Refuses (absorbCauses r rule t) (absorbOf r rule t)
-  absorb-refuses = rw absorb-chain (chain (added t totals) (absorbCauses r rule t))
+  has-close : Has (closeOf r) (closeCauses r)
+  unfolding closeOf closeCauses numberOf
+  has-close = has-one (validRun r) InvalidRecord 11 _ _ refl (has-unless (r .closed) WrongPhase 9 _ [] refl (has-none _))
 
-absorb-counted : (r : Run) (rule : ℕ) (c : Counted) (before after : Tally) (a : Answer) → Counts r rule c → Absorbs before c after a → (answerReply after a ≡ absorbOf r rule before) × (after ≡ tallyAfter before (absorbOf r rule before))
-unfolding absorbOf
-absorb-counted r rule c before after a p q =
-    (q .replies ∙ ap (withCounts before) (p .replies), q .leaves ∙ ap (λ (x : Reply Totals). tallyAfter before (withCounts before x)) (p .replies))
+  module _ (rule : ℕ) where
+    has-standing : (position : ℕ) → Has (standingOf r rule position) (standingCauses r rule position)
+    unfolding standingOf standingCauses numberOf
+    has-standing position =
+        has-one (validRun r) InvalidRecord 11 _ _ refl (has-one (oneOf (r .table .count) rule && oneOf (r .count) position) NotFound 10 _ [] refl (has-none _))
 
-keeps-tally : (t : Tally) (reply : Reply Tally) (n : Returned) → reply ≡ refused n → tallyAfter t reply ≡ t
-unfolding tallyAfter
-keeps-tally t reply n e = ap (tallyAfter t) e
+    has-totals : Has (totalsOf r rule) (totalsCauses r rule)
+    unfolding totalsOf totalsCauses numberOf
+    has-totals =
+        has-one (validRun r) InvalidRecord 11 _ _ refl (has-one (oneOf (r .table .count) rule) NotFound 10 _ [] refl (has-none _))
+
+    has-counts : Has (countsOf r rule) (cause InvalidRecord (not (validRun r)) ∷ cause NotFound (not (oneOf (r .table .count) rule)) ∷ cause WrongPhase (not (r .closed)) ∷ [])
+    unfolding countsOf numberOf
+    has-counts =
+        has-one (validRun r) InvalidRecord 11 _ _ refl (has-one (oneOf (r .table .count) rule) NotFound 10 _ _ refl (has-one (r .closed) WrongPhase 9 _ [] refl (has-none _)))
+
+    counts-are : (c : Totals) → countsOf r rule ≡ accepted c → totalsIn r rule ≡ c
+    unfolding countsOf
+    counts-are c e =
+        let v = required (validRun r) 11 _ c e in
+        let o = required (oneOf (r .table .count) rule) 10 _ c (v .1) in
+        of-of (required (r .closed) 9 _ c (o .1) .1)
+
+    has-absorb : (t : Tally) → Has (absorbOf r rule t) (absorbCauses r rule t)
+    unfolding absorbOf withTotals absorbCauses numberOf
+    has-absorb t =
+        has-then (countsOf r rule) (withTotals t) _ _ has-counts
+        (λ c e. rw (← counts-are c e) (has-one (hasRoomFor t (totalsIn r rule)) TallyOverflow 14 _ [] refl (has-none _)))
+
+absorb-counted : (r : Run) (rule : ℕ) (c : Counted) (before next : Tally) (o : Outcome) → Counts r rule c → Absorbs before c next o → (tallyAnswer next o ≡ absorbOf r rule before) × (next ≡ afterCall before (absorbOf r rule before))
+unfolding absorbOf withCounted
+absorb-counted r rule c before next o p q =
+    let e : (countsOf r rule >>= withTotals before) ≡ withCounted before c = ap (λ (x : Answer Totals). x >>= withTotals before) (sym (p .answers)) in
+    (q .answers ∙ sym e, q .leaves ∙ ap (afterCall before) (sym e))
 
 -- ---- the texts
 
 rules-reads : (text : List ℕ) → Reads ruleCauses rulesTextOf ruleNumbers text
 unfolding rulesTextOf any
-rules-reads text = reads ruleAfter ruleCauses (λ above fields line. has-rule line above fields) text ruleNumbers refl rule-numbered
+rules-reads text = reads ruleAfter ruleCauses has-rule text ruleNumbers refl rule-numbered
 
 cycle-reads : (text : List ℕ) → Reads eventCauses cycleTextOf eventNumbers text
 unfolding cycleTextOf any
-cycle-reads text = reads eventAfter eventCauses (λ above fields line. has-event line above fields) text eventNumbers refl event-numbered
+cycle-reads text = reads eventAfter eventCauses has-event text eventNumbers refl event-numbered
 
 -- ---- the notebook
 
@@ -102,8 +130,8 @@ cycle-rules e =
     let z : _≡_ {A = ℕ} 0 1 = cc in
     omega arith
 
-stopped : {A : Type 0} (text : Text) (m n k line : ℕ) → notRead text m k ≡ notRead text n line → _≡_ {A = Records A} (Stop m k) (Stop n line)
-stopped text m n k line e =
+same-stop : {A : Type 0} (text : Text) (m n k line : ℕ) → notRead text m k ≡ notRead text n line → _≡_ {A = Records A} (Stop m k) (Stop n line)
+same-stop text m n k line e =
     let p : m ≡ n = cc in
     let q : k ≡ line = cc in
     rw (p, q)
@@ -112,12 +140,12 @@ rules-refused : (x : Records Rule) (y : Records Event) (n line : ℕ) → (finis
 unfolding finishedOf readWith
 rules-refused (All rs) (All es) n line = ((λ e. absurd (read-refused e)), (λ e. absurd (stop-all (sym e))))
 rules-refused (All rs) (Stop m k) n line = ((λ e. absurd (cycle-rules e)), (λ e. absurd (stop-all (sym e))))
-rules-refused (Stop m k) y n line = (stopped Rules m n k line, (λ e. cc))
+rules-refused (Stop m k) y n line = (same-stop Rules m n k line, (λ e. cc))
 
 cycle-refused : (x : Records Rule) (y : Records Event) (n line : ℕ) → (finishedOf x y ≡ notRead Cycle n line) ↔ (((rs : List Rule) × (x ≡ All rs)) × (y ≡ Stop n line))
 unfolding finishedOf readWith
 cycle-refused (All rs) (All es) n line = ((λ e. absurd (read-refused e)), (λ e. absurd (stop-all (sym (e .1)))))
-cycle-refused (All rs) (Stop m k) n line = ((λ e. ((rs, refl), stopped Cycle m n k line e)), (λ e. (let q : Stop m k ≡ Stop n line = e .1 in cc)))
+cycle-refused (All rs) (Stop m k) n line = ((λ e. ((rs, refl), same-stop Cycle m n k line e)), (λ e. (let q : Stop m k ≡ Stop n line = e .1 in cc)))
 cycle-refused (Stop m k) y n line = ((λ e. absurd (cycle-rules (sym e))), (λ e. absurd (stop-all (e .0 .1))))
 
 both-read : (x : Records Rule) (y : Records Event) → ((r : Run) × (finishedOf x y ≡ readAs r)) ↔ (((rs : List Rule) × (x ≡ All rs)) × ((es : List Event) × (y ≡ All es)))
@@ -138,19 +166,18 @@ reads-both rules cycle =
 -- ---- all calls
 
 pub demand1 : Demand1
-unfolding startCauses takeCauses closeCauses standingCauses totalsCauses startOf takeOf closeOf standingOf totalsOf inOrder returned hasLine numberOf
 demand1 =
     record {
-      start = λ t. chain (newRun t) (startCauses t);
-      take = λ r e. chain (judgedRun (appended r e)) (takeCauses r e);
-      close = λ r. chain (closedRun r) (closeCauses r);
-      standing = λ r rule position. chain _ (standingCauses r rule position);
-      totals = λ r rule. chain _ (totalsCauses r rule);
-      absorb = absorb-refuses;
+      start = λ t. refuses (startOf t) (startCauses t) (has-start t);
+      take = λ r e. refuses (takeOf r e) (takeCauses r e) (has-take r e);
+      close = λ r. refuses (closeOf r) (closeCauses r) (has-close r);
+      standing = λ r rule position. refuses (standingOf r rule position) (standingCauses r rule position) (has-standing r rule position);
+      totals = λ r rule. refuses (totalsOf r rule) (totalsCauses r rule) (has-totals r rule);
+      absorb = λ r rule t. refuses (absorbOf r rule t) (absorbCauses r rule t) (has-absorb r rule t);
       absorbs = absorb-counted;
-      take-keeps = λ r e n p. keeps r (takeOf r e) n p;
-      close-keeps = λ r n p. keeps r (closeOf r) n p;
-      tally-keeps = λ r rule t n p. keeps-tally t (absorbOf r rule t) n p;
+      take-keeps = λ r e n p. after-refused r (takeOf r e) n p;
+      close-keeps = λ r n p. after-refused r (closeOf r) n p;
+      tally-keeps = λ r rule t n p. after-refused t (absorbOf r rule t) n p;
       rules-text = rules-reads;
       cycle-text = cycle-reads;
       notebook = reads-both;

@@ -10,7 +10,9 @@ use Rattle.declare.specs.declared.Rule.{Rule}
 use Rattle.declare.specs.declared.Table.{Table}
 use Rattle.declare.specs.declared.Standing.{Standing}
 use Rattle.declare.specs.declared.Standing.the-variants.{Idle}
-use Rattle.declare.specs.Rules.{isTemplate, validHead, validRule, validTable}
+use Rattle.declare.specs.Limits.{mostRules}
+use Rattle.declare.specs.Rules.{isTemplate, validHead, validRule, ruleAt, validTable}
+use Rattle.declare.specs.Slots.{tableOf}
 use Rattle.declare.specs.Suits.{activationAt}
 use Rattle.declare.specs.Verdicts.{verdict}
 use Rattle.declare.specs.Standings.{isIdle}
@@ -18,25 +20,25 @@ use Rattle.declare.specs.Words.{Names, targetIn}
 use Rattle.declare.specs.Steps.{Cycle, taken}
 use Rattle.declare.proofs.Booleans.{and₃, and₄}
 use Rattle.declare.proofs.Words.{judged}
-use Rattle.declare.proofs.Steps.{cycle-of-taken}
+use Rattle.declare.proofs.Exactness.{verdict-active}
+use Rattle.declare.proofs.Tables.{rule-valid, table-slots, table-valid}
+use Rattle.declare.proofs.Steps.{cycle-of-taken, taken-cycle}
 use Rattle.formula.specs.Formula.{Formula}
 use Rattle.formula.specs.Table.{fixedOf, publishedOf}
 use Rattle.formula.specs.Agreement.{Agrees, Activated}
 use Rattle.formula.proofs.Agreement.{fixed-agrees, published-agrees}
 use Rattle.run.specs.declared.Run.{Run}
-use Rattle.run.specs.Replies.{accepted}
-use Rattle.run.specs.Records.{ruleAt}
+use Rattle.declare.specs.Answers.{accepted}
 use Rattle.run.specs.Close.{closedRun}
 use Rattle.run.specs.Queries.{standingOf}
 use Rattle.run.specs.Takes.{grown, Answers, finished}
-use Rattle.run.proofs.Takes.{rule-valid, verdict-active, takes}
+use Rattle.run.proofs.Takes.{takes}
+use Rattle.run.proofs.Grown.{finished-is-grown}
 use Rattle.cycle_text.proofs.RoundTrips.{round-trips as cycle-trips}
-use Rattle.rule_text.specs.Reads.{tableOf}
-use Rattle.rule_text.specs.Written.{Sound}
+use Rattle.rule_text.specs.Written.{ValidRules}
 use Rattle.rule_text.proofs.RoundTrips.{round-trips as rules-trips}
-use Rattle.notebook.specs.Notebook.{accepted as readAs, notebookOf}
-use Rattle.notebook.proofs.Tables.{table-slots, table-valid}
-use Rattle.notebook.proofs.Grown.{taken-cycle, finished-is-grown, accepted-texts}
+use Rattle.notebook.specs.Notebook.{readAs, notebookOf}
+use Rattle.notebook.proofs.Replies.{accepted-texts}
 use Rattle.demands.specs.Demand2.{Decides, FollowsFormulas, Demand2Grown, Demand2Read}
 use Rattle.demands.proofs.Standings.{stands-as, stands-so, stands-fulfilled, stands-violated}
 
@@ -50,7 +52,7 @@ unfolding verdict
 idle-is r es i = ((λ e. sym (verdict-active r es i) ∙ ap (λ (s : Standing). not (isIdle s)) e), (λ e. rw e))
 
 -- any closed run that answers with the verdicts
-pub follows : (t : Table) (es : List Event) (r : Run) → length (t .rules) ≡ 16 → validTable t ≡ true → Cycle es → Answers t es (finished es) r → FollowsFormulas t es r
+pub follows : (t : Table) (es : List Event) (r : Run) → length (t .rules) ≡ mostRules → validTable t ≡ true → Cycle es → Answers t es (finished es) r → FollowsFormulas t es r
 follows t es r slots valid cycle answers k i w =
     record {
       verdicts = answer;
@@ -69,7 +71,7 @@ follows t es r slots valid cycle answers k i w =
     activated : activationAt (ruleAt t k) es i ≡ true → Activated (ruleAt t k) es i
     activated e =
         record {
-          template = valid-code (ruleAt t k) (rule-valid t slots valid es cycle k (w .rule-low) (w .rule-high));
+          template = valid-code (ruleAt t k) (rule-valid t slots valid k (w .rule-low) (w .rule-high));
           falls = cycle .order;
           low = w .position-low;
           high = w .position-high;
@@ -90,17 +92,17 @@ demand2-grown t offered slots valid =
 pub demand2-read : Demand2Read
 demand2-read rulesText cycleText rules es p q = (closedRun (grown (tableOf rules) es), read, follows (tableOf rules) es (closedRun (grown (tableOf rules) es)) slots valid cycle answers)
   where
-    rules-sound : Sound rules
-    rules-sound = rules-trips .sound rulesText rules p .0
+    rules-valid : ValidRules rules
+    rules-valid = rules-trips .valid rulesText rules p .0
 
     cycle : Cycle es
-    cycle = cycle-trips .sound cycleText es q
+    cycle = cycle-trips .valid cycleText es q
 
-    slots : length (tableOf rules .rules) ≡ 16
-    slots = table-slots rules (rules-sound .most)
+    slots : length (tableOf rules .rules) ≡ mostRules
+    slots = table-slots rules (rules-valid .most)
 
     valid : validTable (tableOf rules) ≡ true
-    valid = table-valid rules rules-sound
+    valid = table-valid rules (rules-valid .most) (rules-valid .valid)
 
     answers : Answers (tableOf rules) es (finished es) (closedRun (grown (tableOf rules) es))
     answers =

@@ -14,33 +14,35 @@ use Rattle.declare.specs.Verdicts.{verdict}
 use Rattle.declare.proofs.Booleans.{and-right}
 use Rattle.line.specs.Texts.{All}
 use Rattle.rule_text.specs.Rules.{rulesTextOf}
-use Rattle.declare.specs.Rules.{validRule, rulesOf, validTable}
-use Rattle.declare.specs.Steps.{Cycle, capacity, taken}
-use Rattle.declare.proofs.Steps.{cycle-of-taken}
+use Rattle.declare.specs.Rules.{validRule, ruleAt, rulesOf, validTable}
+use Rattle.declare.specs.Steps.{Cycle, taken}
+use Rattle.declare.specs.Limits.{mostRules}
+use Rattle.declare.proofs.Steps.{cycle-of-taken, taken-cycle}
+use Rattle.declare.proofs.Tables.{rules-within, rule-valid, rule-count, table-slots, table-valid}
+use Rattle.standings.proofs.Same.{same-cells}
 use Rattle.run.specs.declared.Run.{Run}
-use Rattle.run.specs.Records.{ruleAt, validRun}
+use Rattle.run.specs.Records.{validRun}
 use Rattle.run.specs.Close.{closedRun}
 use Rattle.run.specs.Queries.{standingOf, totalsOf}
 use Rattle.run.specs.Takes.{grown, running, finished, RunOf, Answers}
-use Rattle.run.proofs.Bounds.{rules-within}
-use Rattle.run.proofs.Takes.{rule-valid, takes}
+use Rattle.run.proofs.Takes.{takes}
+use Rattle.run.proofs.Grown.{finished-is-grown}
 use Rattle.cycle_text.specs.Written.{eventsText}
 use Rattle.cycle_text.proofs.RoundTrips.{round-trips as cycle-trips}
-use Rattle.rule_text.specs.Written.{Sound, rulesText, tidy}
+use Rattle.rule_text.specs.Written.{ValidRules, rulesText, canonical}
 use Rattle.rule_text.proofs.RoundTrips.{round-trips as rules-trips}
 use Rattle.cycle_text.proofs.Lengths.{written-bytes as cycle-bytes}
 use Rattle.rule_text.proofs.Lengths.{written-bytes as rules-bytes}
-use Rattle.rule_text.proofs.Tidy.{tidy-verdict}
-use Rattle.notebook.specs.Notebook.{accepted as readAs, notebookOf}
-use Rattle.notebook.proofs.Cells.{same-cells}
-use Rattle.notebook.proofs.Tables.{table-slots, table-valid, rule-count, same-count, tidy-rule}
-use Rattle.notebook.proofs.Grown.{taken-cycle, finished-is-grown, accepted-texts}
+use Rattle.rule_text.proofs.Canonical.{canonical-verdict}
+use Rattle.notebook.specs.Notebook.{readAs, notebookOf}
+use Rattle.notebook.proofs.Tables.{same-count, canonical-rule}
+use Rattle.notebook.proofs.Replies.{accepted-texts}
 use Rattle.demands.proofs.Early.{early-at}
 use Rattle.demands.specs.Demand3.{EarlyVerdicts, rewritten, Bytes, ReadBack, EveryTable}
 
-early : (t : Table) (es : List Event) (r : Run) → length (t .rules) ≡ 16 → validTable t ≡ true → Cycle es → Answers t es (running es) r → EarlyVerdicts t es r
+early : (t : Table) (es : List Event) (r : Run) → length (t .rules) ≡ mostRules → validTable t ≡ true → Cycle es → Answers t es (running es) r → EarlyVerdicts t es r
 early t es r slots valid cycle answers k i w =
-    early-at (ruleAt t k) es r k i (rule-valid t slots valid es cycle k (w .rule-low) (w .rule-high)) (cycle .formed) (cycle .order) (w .position-low) (w .position-high)
+    early-at (ruleAt t k) es r k i (rule-valid t slots valid k (w .rule-low) (w .rule-high)) (cycle .formed) (cycle .order) (w .position-low) (w .position-high)
     (answers .standing k i (w .rule-low) (w .rule-high) (w .position-low) (w .position-high))
 
 -- ---- the notebook
@@ -55,51 +57,50 @@ module _ (q r : Run) (valid-q : validRun q ≡ true) (valid-r : validRun r ≡ t
   unfolding totalsOf
   same-totals k = rw (valid-q, valid-r, rules, events, cells)
 
-sound-rules : (t : Table) → validTable t ≡ true → length (rulesOf t) ≤ 16 → Sound (rulesOf t)
+valid-rules : (t : Table) → validTable t ≡ true → length (rulesOf t) ≤ mostRules → ValidRules (rulesOf t)
 unfolding validTable
-sound-rules t v few = record { most = few; valid = and-right (leb (t .count) 16) (all validRule (rulesOf t)) v }
+valid-rules t v few = record { most = few; valid = and-right (leb (t .count) mostRules) (all validRule (rulesOf t)) v }
 
-module _ (t : Table) (offered : List Event) (slots : length (t .rules) ≡ 16) (valid : validTable t ≡ true) where
+module _ (t : Table) (offered : List Event) (slots : length (t .rules) ≡ mostRules) (valid : validTable t ≡ true) where
   abbrev es : List Event
   es = taken offered
 
   abbrev u : Table
   u = rewritten t
 
-  few : t .count ≤ 16
+  few : t .count ≤ mostRules
   few = rules-within t valid
 
   cycle : Cycle es
   cycle = cycle-of-taken offered
 
-  read-rules : rulesTextOf (rulesText (rulesOf t)) ≡ All (map tidy (rulesOf t))
-  read-rules = rules-trips .read (rulesOf t) (sound-rules t valid (rw (rule-count t slots few) few))
+  read-rules : rulesTextOf (rulesText (rulesOf t)) ≡ All (map canonical (rulesOf t))
+  read-rules = rules-trips .read (rulesOf t) (valid-rules t valid (rw (rule-count t slots few) few))
 
   rules-text : Bytes 2480 (rulesText (rulesOf t))
   rules-text =
-      let n : length (rulesOf t) ≤ 16 = rw (rule-count t slots few) few in
-      let s : Sound (rulesOf t) = sound-rules t valid n in
+      let n : length (rulesOf t) ≤ mostRules = rw (rule-count t slots few) few in
+      let s : ValidRules (rulesOf t) = valid-rules t valid n in
       record { bytes = rules-bytes .bytes (rulesOf t) s; few = omega (arith, rules-bytes .most (rulesOf t) s) }
 
   cycle-text : Bytes 15872 (eventsText es)
-  unfolding capacity
   cycle-text = record { bytes = cycle-bytes .bytes es cycle; few = omega (arith, cycle-bytes .most es cycle, cycle .most) }
 
-  rules-sound : Sound (map tidy (rulesOf t))
-  rules-sound = rules-trips .sound (rulesText (rulesOf t)) (map tidy (rulesOf t)) read-rules .0
+  rules-valid : ValidRules (map canonical (rulesOf t))
+  rules-valid = rules-trips .valid (rulesText (rulesOf t)) (map canonical (rulesOf t)) read-rules .0
 
-  u-slots : length (u .rules) ≡ 16
-  u-slots = table-slots (map tidy (rulesOf t)) (rules-sound .most)
+  u-slots : length (u .rules) ≡ mostRules
+  u-slots = table-slots (map canonical (rulesOf t)) (rules-valid .most)
 
   u-valid : validTable u ≡ true
-  u-valid = table-valid (map tidy (rulesOf t)) rules-sound
+  u-valid = table-valid (map canonical (rulesOf t)) (rules-valid .most) (rules-valid .valid)
 
   abbrev read : Run
   read = closedRun (grown u es)
 
   reply : notebookOf (rulesText (rulesOf t)) (eventsText es) ≡ readAs read
   reply =
-      accepted-texts (rulesText (rulesOf t)) (eventsText es) (map tidy (rulesOf t)) es read-rules (cycle-trips .read es cycle)
+      accepted-texts (rulesText (rulesOf t)) (eventsText es) (map canonical (rulesOf t)) es read-rules (cycle-trips .read es cycle)
       ∙ ap readAs (finished-is-grown u u-slots u-valid es cycle)
 
   read-run : RunOf u es true (finished es) read
@@ -117,7 +118,7 @@ module _ (t : Table) (offered : List Event) (slots : length (t .rules) ≡ 16) (
       same-cells (t .count) (length es) (read .cells) (closedRun (grown t offered) .cells)
       (record { size = read-run .cells; idle = λ j h e. read-run .idle j h (rw count e) })
       (record { size = closed .cells; idle = closed .idle })
-      (λ k i a b c d. read-run .standings k i a (rw count b) c d ∙ ap (λ (rule : Rule). verdict rule es i) (tidy-rule t slots few k a b) ∙ tidy-verdict (ruleAt t k) es i ∙ sym (closed .standings k i a b c d))
+      (λ k i a b c d. read-run .standings k i a (rw count b) c d ∙ ap (λ (rule : Rule). verdict rule es i) (canonical-rule t slots few k a b) ∙ canonical-verdict (ruleAt t k) es i ∙ sym (closed .standings k i a b c d))
 
   tables : read .table .count ≡ closedRun (grown t offered) .table .count
   tables = ap (λ (x : Table). x .count) (read-run .table) ∙ count ∙ sym (ap (λ (x : Table). x .count) (closed .table))

@@ -13,12 +13,12 @@ use Rattle.declare.specs.declared.Refusal.{Refusal}
 use Rattle.declare.specs.declared.Refusal.the-variants.{FieldCount, EmptyWindow, TimeFalls, TooMany}
 use Rattle.declare.specs.Lists.{all, any}
 use Rattle.declare.specs.Events.{lastTime}
-use Rattle.declare.specs.Refusals.{number-and-line, returned, hasLine, numberOf}
+use Rattle.declare.specs.Refusals.{numberOf}
 use Rattle.declare.proofs.Booleans.{all-append}
-use Rattle.run.proofs.Lists.{leb-not, ltb-not}
+use Rattle.declare.proofs.Lists.{leb-not, ltb-not}
 use Rattle.number.specs.Number.{dash, valueOf}
 use Rattle.line.specs.Fields.{split}
-use Rattle.line.specs.Answers.{Answer, Of, _>>=_, _>>_, require}
+use Rattle.declare.specs.Answers.{Answer, accepted, _>>=_, _>>_, require}
 use Rattle.line.specs.Values.{numberField, readingField}
 use Rattle.rule_text.specs.Conditions.{comma, conditionField}
 use Rattle.rule_text.specs.Rules.{endField, isAbove, ruleOf, inTable, ruleAfter}
@@ -35,81 +35,80 @@ turn-append [] later = refl
 turn-append (group ∷ first) later =
     ap (λ (cs : List Cause). group ++ cs) (turn-append first later) ∙ sym (append-assoc group (inTurn first) (inTurn later))
 
-module _ (line : ℕ) where
-  -- ---- group by group
+-- ---- group by group
 
-  has-of : {A : Type 0} (a : A) → Has line (Of a) (inTurn [])
-  unfolding inTurn
-  has-of a = has-none line a
+has-of : {A : Type 0} (a : A) → Has (accepted a) (inTurn [])
+unfolding inTurn
+has-of a = has-none a
 
-  has-check : {B : Type 0} (test : Bool) (refusal : Refusal) (n : ℕ) (x : Answer B) (later : List (List Cause)) → returned refusal line ≡ number-and-line n line → Has line x (inTurn later) → Has line (require test n >> x) (inTurn ((cause refusal (not test) ∷ []) ∷ later))
-  unfolding inTurn
-  has-check test refusal n x later e h = has-one line test refusal n x (inTurn later) e h
+has-check : {B : Type 0} (test : Bool) (refusal : Refusal) (n : ℕ) (x : Answer B) (later : List (List Cause)) → numberOf refusal ≡ n → Has x (inTurn later) → Has (require test n >> x) (inTurn ((cause refusal (not test) ∷ []) ∷ later))
+unfolding inTurn
+has-check test refusal n x later e h = has-one test refusal n x (inTurn later) e h
 
-  has-last : {B : Type 0} (holds : Bool) (refusal : Refusal) (n : ℕ) (x : Answer B) (later : List (List Cause)) → returned refusal line ≡ number-and-line n line → Has line x (inTurn later) → Has line (require (not holds) n >> x) (inTurn ((cause refusal holds ∷ []) ∷ later))
-  unfolding inTurn
-  has-last holds refusal n x later e h = has-unless line holds refusal n x (inTurn later) e h
+has-last : {B : Type 0} (holds : Bool) (refusal : Refusal) (n : ℕ) (x : Answer B) (later : List (List Cause)) → numberOf refusal ≡ n → Has x (inTurn later) → Has (require (not holds) n >> x) (inTurn ((cause refusal holds ∷ []) ∷ later))
+unfolding inTurn
+has-last holds refusal n x later e h = has-unless holds refusal n x (inTurn later) e h
 
-  has-next : {A B : Type 0} (x : Answer A) (f : A → Answer B) (group : List Cause) (later : List (List Cause)) → Has line x group → ((a : A) → x ≡ Of a → Has line (f a) (inTurn later)) → Has line (x >>= f) (inTurn (group ∷ later))
-  unfolding inTurn
-  has-next x f group later h more = has-then line x f group (inTurn later) h more
+has-next : {A B : Type 0} (x : Answer A) (f : A → Answer B) (group : List Cause) (later : List (List Cause)) → Has x group → ((a : A) → x ≡ accepted a → Has (f a) (inTurn later)) → Has (x >>= f) (inTurn (group ∷ later))
+unfolding inTurn
+has-next x f group later h more = has-then x f group (inTurn later) h more
 
-  -- ---- a cycle line
+-- ---- a cycle line
 
-  has-event-of : (fields : List (List ℕ)) → Has line (eventOf fields) (inTurn (eventFieldCauses fields))
-  unfolding eventOf returned hasLine numberOf
-  has-event-of fields =
-      has-check (eqb (length fields) 6) FieldCount 1 _ _ refl
-      (has-next (numberField 0 4294967295 (getD fields 0 [])) _ _ _ (has-number line 0 4294967295 (getD fields 0 []))
-      (λ t _. has-next (numberField 1 64 (getD fields 1 [])) _ _ _ (has-number line 1 64 (getD fields 1 []))
-      (λ a _. has-next (readingField (getD fields 2 [])) _ _ _ (has-reading line (getD fields 2 []))
-      (λ p _. has-next (readingField (getD fields 3 [])) _ _ _ (has-reading line (getD fields 3 []))
-      (λ q _. has-next (readingField (getD fields 4 [])) _ _ _ (has-reading line (getD fields 4 []))
-      (λ r _. has-next (readingField (getD fields 5 [])) _ _ _ (has-reading line (getD fields 5 []))
-      (λ s _. has-of _)))))))
+has-event-of : (fields : List (List ℕ)) → Has (eventOf fields) (inTurn (eventFieldCauses fields))
+unfolding eventOf numberOf
+has-event-of fields =
+    has-check (eqb (length fields) 6) FieldCount 1 _ _ refl
+    (has-next (numberField 0 4294967295 (getD fields 0 [])) _ _ _ (has-number 0 4294967295 (getD fields 0 []))
+    (λ t _. has-next (numberField 1 64 (getD fields 1 [])) _ _ _ (has-number 1 64 (getD fields 1 []))
+    (λ a _. has-next (readingField (getD fields 2 [])) _ _ _ (has-reading (getD fields 2 []))
+    (λ p _. has-next (readingField (getD fields 3 [])) _ _ _ (has-reading (getD fields 3 []))
+    (λ q _. has-next (readingField (getD fields 4 [])) _ _ _ (has-reading (getD fields 4 []))
+    (λ r _. has-next (readingField (getD fields 5 [])) _ _ _ (has-reading (getD fields 5 []))
+    (λ s _. has-of _)))))))
 
-  has-placed : (above : List Event) (e : Event) (time : ℕ) → e .time ≡ time → Has line (placed above e) (inTurn (eventPlaceCauses above time))
-  unfolding placed returned hasLine numberOf
-  has-placed above e time t =
-      rw (← t, leb-not (lastTime above) (e .time), ltb-not (length above) 256)
-      (has-last (ltb (e .time) (lastTime above)) TimeFalls 7 _ _ refl (has-last (leb 256 (length above)) TooMany 8 _ _ refl (has-of e)))
+has-placed : (above : List Event) (e : Event) (time : ℕ) → e .time ≡ time → Has (placed above e) (inTurn (eventPlaceCauses above time))
+unfolding placed numberOf
+has-placed above e time t =
+    rw (← t, leb-not (lastTime above) (e .time), ltb-not (length above) 256)
+    (has-last (ltb (e .time) (lastTime above)) TimeFalls 7 _ _ refl (has-last (leb 256 (length above)) TooMany 8 _ _ refl (has-of e)))
 
-  pub has-event : (above : List Event) (fields : List (List ℕ)) → Has line (eventAfter above fields) (eventCauses above fields)
-  unfolding eventAfter eventCauses
-  has-event above fields =
-      let time : ℕ = valueOf (getD fields 0 []) in
-      has-then line (eventOf fields) (placed above) _ _ (has-event-of fields) (λ e h. has-placed above e time (number-value line 0 4294967295 (getD fields 0 []) (e .time) (event-read fields e h .time)))
-      ∙ ap (λ (cs : List Cause). inOrder line cs tt) (sym (turn-append (eventFieldCauses fields) (eventPlaceCauses above time)))
+pub has-event : (above : List Event) (fields : List (List ℕ)) → Has (eventAfter above fields) (eventCauses above fields)
+unfolding eventAfter eventCauses
+has-event above fields =
+    let time : ℕ = valueOf (getD fields 0 []) in
+    has-then (eventOf fields) (placed above) _ _ (has-event-of fields) (λ e h. has-placed above e time (number-value 0 4294967295 (getD fields 0 []) (e .time) (event-read fields e h .time)))
+    ∙ ap (λ (cs : List Cause). inOrder cs) (sym (turn-append (eventFieldCauses fields) (eventPlaceCauses above time)))
 
-  -- ---- a rule line
+-- ---- a rule line
 
-  has-window : {A : Type 0} (a : ℕ) (b : End) (fields : List (List ℕ)) (x : A) → numberField 0 4294967295 (getD fields 3 []) ≡ Of a → endField (getD fields 4 []) ≡ Of b → Has line (require (isAbove b a) 6 >> Of x) (inTurn (unlessDash (getD fields 4 []) (cause EmptyWindow (leb (valueOf (getD fields 4 [])) (valueOf (getD fields 3 []))) ∷ []) ∷ []))
-  unfolding inTurn
-  has-window a b fields x p q =
-      rw (← number-value line 0 4294967295 (getD fields 3 []) a p) (has-above line a b (getD fields 4 []) (Of x) [] q (has-none line x))
+has-window : {A : Type 0} (a : ℕ) (b : End) (fields : List (List ℕ)) (x : A) → numberField 0 4294967295 (getD fields 3 []) ≡ accepted a → endField (getD fields 4 []) ≡ accepted b → Has (require (isAbove b a) 6 >> accepted x) (inTurn (unlessDash (getD fields 4 []) (cause EmptyWindow (leb (valueOf (getD fields 4 [])) (valueOf (getD fields 3 []))) ∷ []) ∷ []))
+unfolding inTurn
+has-window a b fields x p q =
+    rw (← number-value 0 4294967295 (getD fields 3 []) a p) (has-above a b (getD fields 4 []) (accepted x) [] q (has-none x))
 
-  has-rule-of : (fields : List (List ℕ)) → Has line (ruleOf fields) (inTurn (ruleFieldCauses fields))
-  unfolding ruleOf returned hasLine numberOf
-  has-rule-of fields =
-      has-check (eqb (length fields) 7) FieldCount 1 _ _ refl
-      (has-next (numberField 1 12 (getD fields 0 [])) _ _ _ (has-number line 1 12 (getD fields 0 []))
-      (λ c _. has-next (numberField 1 64 (getD fields 1 [])) _ _ _ (has-number line 1 64 (getD fields 1 []))
-      (λ k _. has-next (numberField 1 64 (getD fields 2 [])) _ _ _ (has-number line 1 64 (getD fields 2 []))
-      (λ t _. has-next (numberField 0 4294967295 (getD fields 3 [])) _ _ _ (has-number line 0 4294967295 (getD fields 3 []))
-      (λ a p. has-next (endField (getD fields 4 [])) _ _ _ (has-until line (getD fields 4 []))
-      (λ b q. has-next (conditionField false (getD fields 5 [])) _ _ _ (has-condition line false (getD fields 5 []))
-      (λ m _. has-next (conditionField true (getD fields 6 [])) _ _ _ (has-condition line true (getD fields 6 []))
-      (λ n _. has-window a b fields _ p q))))))))
+has-rule-of : (fields : List (List ℕ)) → Has (ruleOf fields) (inTurn (ruleFieldCauses fields))
+unfolding ruleOf numberOf
+has-rule-of fields =
+    has-check (eqb (length fields) 7) FieldCount 1 _ _ refl
+    (has-next (numberField 1 12 (getD fields 0 [])) _ _ _ (has-number 1 12 (getD fields 0 []))
+    (λ c _. has-next (numberField 1 64 (getD fields 1 [])) _ _ _ (has-number 1 64 (getD fields 1 []))
+    (λ k _. has-next (numberField 1 64 (getD fields 2 [])) _ _ _ (has-number 1 64 (getD fields 2 []))
+    (λ t _. has-next (numberField 0 4294967295 (getD fields 3 [])) _ _ _ (has-number 0 4294967295 (getD fields 3 []))
+    (λ a p. has-next (endField (getD fields 4 [])) _ _ _ (has-until (getD fields 4 []))
+    (λ b q. has-next (conditionField false (getD fields 5 [])) _ _ _ (has-condition false (getD fields 5 []))
+    (λ m _. has-next (conditionField true (getD fields 6 [])) _ _ _ (has-condition true (getD fields 6 []))
+    (λ n _. has-window a b fields _ p q))))))))
 
-  has-room : (above : List Rule) (r : Rule) → Has line (inTable above r) (inTurn (rulePlaceCauses above))
-  unfolding inTable returned hasLine numberOf
-  has-room above r = rw (ltb-not (length above) 16) (has-last (leb 16 (length above)) TooMany 8 _ _ refl (has-of r))
+has-room : (above : List Rule) (r : Rule) → Has (inTable above r) (inTurn (rulePlaceCauses above))
+unfolding inTable numberOf
+has-room above r = rw (ltb-not (length above) 16) (has-last (leb 16 (length above)) TooMany 8 _ _ refl (has-of r))
 
-  pub has-rule : (above : List Rule) (fields : List (List ℕ)) → Has line (ruleAfter above fields) (ruleCauses above fields)
-  unfolding ruleAfter ruleCauses
-  has-rule above fields =
-      has-then line (ruleOf fields) (inTable above) _ _ (has-rule-of fields) (λ r _. has-room above r)
-      ∙ ap (λ (cs : List Cause). inOrder line cs tt) (sym (turn-append (ruleFieldCauses fields) (rulePlaceCauses above)))
+pub has-rule : (above : List Rule) (fields : List (List ℕ)) → Has (ruleAfter above fields) (ruleCauses above fields)
+unfolding ruleAfter ruleCauses
+has-rule above fields =
+    has-then (ruleOf fields) (inTable above) _ _ (has-rule-of fields) (λ r _. has-room above r)
+    ∙ ap (λ (cs : List Cause). inOrder cs) (sym (turn-append (ruleFieldCauses fields) (rulePlaceCauses above)))
 
 -- ---- the numbers that a line can give
 

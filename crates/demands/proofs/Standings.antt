@@ -7,12 +7,10 @@ use Rattle.declare.specs.declared.Standing.{Standing}
 use Rattle.declare.specs.declared.Standing.the-variants.{Idle, Open, Fulfilled, Violated}
 use Rattle.declare.specs.Standings.{isFulfilled, isViolated}
 use Rattle.run.specs.declared.Run.{Run}
-use Rattle.run.specs.Replies.{accepted}
+use Rattle.declare.specs.Answers.{accepted}
+use Rattle.declare.proofs.Answers.{of-of}
 use Rattle.run.specs.Queries.{standingOf}
 use Rattle.demands.specs.Demand2.{StandsFulfilled, StandsViolated}
-
-pub accepted-same : {A : Type 0} {a b : A} → accepted a ≡ accepted b → a ≡ b
-accepted-same e = cc
 
 fulfilled-by : (s : Standing) → isFulfilled s ≡ true → (j : ℕ) × (s ≡ Fulfilled j)
 fulfilled-by Idle h = absurd (false≢true h)
@@ -28,7 +26,7 @@ violated-by (Violated j) h = (j, refl)
 
 module _ (r : Run) (k i : ℕ) (s : Standing) (answer : standingOf r k i ≡ accepted s) where
   pub stands-as : (u : Standing) → standingOf r k i ≡ accepted u → s ≡ u
-  stands-as u e = accepted-same (sym answer ∙ e)
+  stands-as u e = of-of (sym answer ∙ e)
 
   pub stands-fulfilled : (P : Type 0) → ((isFulfilled s ≡ true) ↔ P) → StandsFulfilled r k i ↔ P
   stands-fulfilled P (to, back) = (

@@ -3,27 +3,25 @@
 -- its answer has the causes `causesOf`.
 use mathlib.Core.Path.{_≡_, refl, sym, ap, subst, _∙_}
 use mathlib.Core.Logic.{_↔_, inl, inr}
-use mathlib.Core.Bool.{Bool, true, false, cond, true≢false, false≢true}
+use mathlib.Core.Bool.{Bool, true, false, cond}
 use mathlib.Core.List.{List, [], _∷_, _++_, nil≢cons}
 use Prim.Native.Nat.{ℕ, _+_}
 use native.Mathlib.Omega.{arith}
 use lib.Dec.{eqb}
 use lib.ListN.{length, length-append}
-use Rattle.declare.specs.declared.Refusal.{Refusal}
 use Rattle.declare.specs.declared.Refusal.the-variants.{NoLineEnd}
 use Rattle.declare.specs.Lists.{all, any}
-use Rattle.declare.specs.Refusals.{number, number-and-line, returned, hasLine, numberOf}
+use Rattle.declare.specs.Refusals.{numberOf}
 use Rattle.declare.proofs.Booleans.{and-left, and-right, both}
-use Rattle.run.specs.Replies.{refused}
+use Rattle.declare.specs.Answers.{Answer, accepted, refused, _>>_, require}
 use Rattle.number.specs.Number.{none}
 use Rattle.line.specs.Fields.{LF, tab, onto, split}
-use Rattle.line.specs.Answers.{Answer, Of, No}
 use Rattle.line.specs.Texts.{Records, All, Stop, lineAfter, continued, linesOf as readLines, textOf}
 use Rattle.line.proofs.Joined.{lacks, split-before}
 use Rattle.line.proofs.Texts.{stop-all, all-all}
 use Rattle.demands.specs.Causes.{Cause, First, noneHolds}
 use Rattle.demands.specs.Texts.{Line, linesIn, linesOf, bytesOf, lineCauses, RefusedAt, NoCause, Reads}
-use Rattle.demands.proofs.Chains.{Has, lineReply, to-first, from-first, to-none, from-none, differ, same}
+use Rattle.demands.proofs.Chains.{Has, same, has-one, refuses-first, accepts-none, first-none}
 
 -- ---- lines and the parts of a text
 
@@ -85,25 +83,9 @@ stop-number e = cc
 stop-line : {A : Type 0} {m n k at : ℕ} → _≡_ {A = Records A} (Stop m k) (Stop n at) → k ≡ at
 stop-line e = cc
 
-returned-number : (c : Refusal) (n at : ℕ) → returned c at ≡ number-and-line n at → numberOf c ≡ n
-unfolding returned
-returned-number c n at = go (hasLine c)
-  where
-    go : (h : Bool) → cond h (number-and-line (numberOf c) at) (number (numberOf c)) ≡ number-and-line n at → numberOf c ≡ n
-    go true e = cc
-    go false e = cc
-
-line-refused : {A : Type 0} (x : Answer A) (n at : ℕ) → lineReply at x ≡ refused (number-and-line n at) → x ≡ No n
-unfolding lineReply
-line-refused (Of a) n at e = absurd (differ e)
-line-refused (No m) n at e =
-    let r : number-and-line m at ≡ number-and-line n at = same e in
-    let q : m ≡ n = cc in
-    ap No q
-
 -- ---- a reader
 
-module _ {A : Type 0} (recordOf : List A → List (List ℕ) → Answer A) (causesOf : List A → List (List ℕ) → List Cause) (has : (above : List A) (fields : List (List ℕ)) (line : ℕ) → Has line (recordOf above fields) (causesOf above fields)) where
+module _ {A : Type 0} (recordOf : List A → List (List ℕ) → Answer A) (causesOf : List A → List (List ℕ) → List Cause) (has : (above : List A) (fields : List (List ℕ)) → Has (recordOf above fields) (causesOf above fields)) where
   abbrev read : List ℕ → Records A
   read = textOf recordOf
 
@@ -128,16 +110,16 @@ module _ {A : Type 0} (recordOf : List A → List (List ℕ) → Answer A) (caus
     lines : linesIn parts ≡ upper ++ (line ∷ lower)
     place : at ≡ length start + length upper + 1
     accepted : readLines recordOf start (partsOf upper) ≡ All above
-    first : First at (causes above line) (number-and-line n at)
+    first : First (causes above line) n
 
   -- refused at the first of the parts that are left
-  refused-here : (start : List A) (parts : List (List ℕ)) (line : Line) (lower : List Line) (n at : ℕ) → linesIn parts ≡ line ∷ lower → lineAfter start ≡ at → First at (causes start line) (number-and-line n at) → Refused start parts n at
+  refused-here : (start : List A) (parts : List (List ℕ)) (line : Line) (lower : List Line) (n at : ℕ) → linesIn parts ≡ line ∷ lower → lineAfter start ≡ at → First (causes start line) n → Refused start parts n at
   unfolding lineAfter
   refused-here start parts line lower n at l p f =
       record { above = start; line = line; upper = []; lower = lower; lines = l; place = omega arith; accepted = read-none start; first = f }
 
   -- refused below the first
-  refused-below : (start : List A) (r : A) (part next : List ℕ) (more : List (List ℕ)) (n at : ℕ) → recordOf start (split tab part) ≡ Of r → Refused (start ++ (r ∷ [])) (next ∷ more) n at → Refused start (part ∷ next ∷ more) n at
+  refused-below : (start : List A) (r : A) (part next : List ℕ) (more : List (List ℕ)) (n at : ℕ) → recordOf start (split tab part) ≡ accepted r → Refused (start ++ (r ∷ [])) (next ∷ more) n at → Refused start (part ∷ next ∷ more) n at
   unfolding linesIn partsOf continued
   refused-below start r part next more n at e f =
       record {
@@ -152,14 +134,29 @@ module _ {A : Type 0} (recordOf : List A → List (List ℕ) → Answer A) (caus
       }
 
   -- 12 comes first, and the causes of the fields after it
-  lacks-end : (above : List A) (bytes : List ℕ) (n at : ℕ) → 12 ≡ n → First at (causes above (record { bytes = bytes; ended = false })) (number-and-line n at)
-  unfolding lineCauses First returned hasLine numberOf
-  lacks-end above bytes n at e = inl (refl, ap (λ (m : ℕ). number-and-line m at) e)
+  -- what a line answers: 12, or what its fields say
+  lineAnswer : List A → Line → Answer A
+  lineAnswer above line = do
+    require (line .ended) 12
+    recordOf above (split tab (line .bytes))
 
-  has-end : (above : List A) (bytes : List ℕ) (n at : ℕ) → recordOf above (split tab bytes) ≡ No n → First at (causes above (record { bytes = bytes; ended = true })) (number-and-line n at)
-  unfolding lineCauses First lineReply
-  has-end above bytes n at e =
-      inr (refl, to-first at tt (causesOf above (split tab bytes)) (number-and-line n at) (sym (has above (split tab bytes) at) ∙ ap (lineReply at) e))
+  has-line : (above : List A) (line : Line) → Has (lineAnswer above line) (causes above line)
+  unfolding lineAnswer lineCauses numberOf
+  has-line above line = has-one (line .ended) NoLineEnd 12 _ _ refl (has above (split tab (line .bytes)))
+
+  line-first : (above : List A) (line : Line) (n : ℕ) → (lineAnswer above line ≡ refused n) ↔ First (causes above line) n
+  line-first above line = refuses-first (lineAnswer above line) (causes above line) (has-line above line)
+
+  -- of a line that LF does not end, and of one that it ends
+  lacks-end : (above : List A) (bytes : List ℕ) (n : ℕ) → (12 ≡ n) ↔ First (causes above (record { bytes = bytes; ended = false })) n
+  unfolding lineAnswer require _>>_
+  lacks-end above bytes n =
+      let f : (refused 12 ≡ refused n) ↔ First (causes above (record { bytes = bytes; ended = false })) n = line-first above (record { bytes = bytes; ended = false }) n in
+      ((λ e. f .0 (ap refused e)), (λ c. same (f .1 c)))
+
+  has-end : (above : List A) (bytes : List ℕ) (n : ℕ) → (recordOf above (split tab bytes) ≡ refused n) ↔ First (causes above (record { bytes = bytes; ended = true })) n
+  unfolding lineAnswer require _>>_
+  has-end above bytes n = line-first above (record { bytes = bytes; ended = true }) n
 
   refused-at : (start : List A) (parts : List (List ℕ)) (n at : ℕ) → readLines recordOf start parts ≡ Stop n at → Refused start parts n at
   unfolding readLines continued
@@ -168,30 +165,18 @@ module _ {A : Type 0} (recordOf : List A → List (List ℕ) → Answer A) (caus
     where
       go : (t : Bool) → none last ≡ t → cond t (All start) (Stop 12 (lineAfter start)) ≡ Stop n at → Refused start (last ∷ []) n at
       go true p q = absurd (stop-all (sym q))
-      go false p q = refused-here start (last ∷ []) (record { bytes = last; ended = false }) [] n at (unfold linesIn in rw p refl) (stop-line q) (lacks-end start last n at (stop-number q))
+      go false p q = refused-here start (last ∷ []) (record { bytes = last; ended = false }) [] n at (unfold linesIn in rw p refl) (stop-line q) (lacks-end start last n .0 (stop-number q))
   refused-at start (part ∷ next ∷ more) n at e =
       go (recordOf start (split tab part)) refl e (λ (r : A). refused-at (start ++ (r ∷ [])) (next ∷ more) n at)
     where
       go : (x : Answer A) → recordOf start (split tab part) ≡ x → continued start x (λ r. readLines recordOf (start ++ (r ∷ [])) (next ∷ more)) ≡ Stop n at → ((r : A) → readLines recordOf (start ++ (r ∷ [])) (next ∷ more) ≡ Stop n at → Refused (start ++ (r ∷ [])) (next ∷ more) n at) → Refused start (part ∷ next ∷ more) n at
-      go (No m) p q below = refused-here start (part ∷ next ∷ more) (record { bytes = part; ended = true }) (linesIn (next ∷ more)) n at (unfold linesIn in refl) (stop-line q) (has-end start part n at (p ∙ ap No (stop-number q)))
-      go (Of r) p q below = refused-below start r part next more n at p (below r q)
+      go (refused m) p q below = refused-here start (part ∷ next ∷ more) (record { bytes = part; ended = true }) (linesIn (next ∷ more)) n at (unfold linesIn in refl) (stop-line q) (has-end start part n .0 (p ∙ ap refused (stop-number q)))
+      go (accepted r) p q below = refused-below start r part next more n at p (below r q)
 
   -- ---- and back
 
-  -- the first cause of a line that LF does not end, and of one that it ends
-  lacks-end-back : (above : List A) (bytes : List ℕ) (n at : ℕ) → First at (causes above (record { bytes = bytes; ended = false })) (number-and-line n at) → 12 ≡ n
-  unfolding lineCauses First numberOf
-  lacks-end-back above bytes n at (inl (h, e)) = returned-number NoLineEnd n at e
-  lacks-end-back above bytes n at (inr (h, f)) = absurd (true≢false h)
-
-  has-end-back : (above : List A) (bytes : List ℕ) (n at : ℕ) → First at (causes above (record { bytes = bytes; ended = true })) (number-and-line n at) → recordOf above (split tab bytes) ≡ No n
-  unfolding lineCauses First
-  has-end-back above bytes n at (inl (h, e)) = absurd (false≢true h)
-  has-end-back above bytes n at (inr (h, f)) =
-      line-refused (recordOf above (split tab bytes)) n at (has above (split tab bytes) at ∙ from-first at tt (causesOf above (split tab bytes)) (number-and-line n at) f)
-
   module _ (n at : ℕ) where
-    stops-last : (start : List A) (last : List ℕ) (upper : List Line) (line : Line) (lower : List Line) (above : List A) → linesIn (last ∷ []) ≡ upper ++ (line ∷ lower) → at ≡ length start + length upper + 1 → First at (causes above line) (number-and-line n at) → readLines recordOf start (last ∷ []) ≡ Stop n at
+    stops-last : (start : List A) (last : List ℕ) (upper : List Line) (line : Line) (lower : List Line) (above : List A) → linesIn (last ∷ []) ≡ upper ++ (line ∷ lower) → at ≡ length start + length upper + 1 → First (causes above line) n → readLines recordOf start (last ∷ []) ≡ Stop n at
     unfolding readLines linesIn lineAfter
     stops-last start last upper line lower above l p f = go (none last) upper l p
       where
@@ -199,20 +184,20 @@ module _ {A : Type 0} (recordOf : List A → List (List ℕ) → Answer A) (caus
         go true upper l p = absurd (nil-append upper line lower l)
         go false [] l p =
             let e : line ≡ record { bytes = last; ended = false } = cc in
-            let m : 12 ≡ n = lacks-end-back above last n at (subst (λ (x : Line). First at (causes above x) (number-and-line n at)) e f) in
+            let m : 12 ≡ n = lacks-end above last n .1 (subst (λ (x : Line). First (causes above x) n) e f) in
             let q : length start + 1 ≡ at = omega arith in
             rw (m, q)
         go false (u ∷ upper) l p =
             let e : [] ≡ upper ++ (line ∷ lower) = cc in
             absurd (nil-append upper line lower e)
 
-    stops-here : (start : List A) (part next : List ℕ) (more : List (List ℕ)) (line : Line) (lower : List Line) (above : List A) → linesIn (part ∷ next ∷ more) ≡ line ∷ lower → at ≡ length start + 1 → All start ≡ All above → First at (causes above line) (number-and-line n at) → readLines recordOf start (part ∷ next ∷ more) ≡ Stop n at
+    stops-here : (start : List A) (part next : List ℕ) (more : List (List ℕ)) (line : Line) (lower : List Line) (above : List A) → linesIn (part ∷ next ∷ more) ≡ line ∷ lower → at ≡ length start + 1 → All start ≡ All above → First (causes above line) n → readLines recordOf start (part ∷ next ∷ more) ≡ Stop n at
     unfolding readLines linesIn lineAfter continued
     stops-here start part next more line lower above l p a f =
         let e : line ≡ record { bytes = part; ended = true } = cc in
         let s : above ≡ start = sym (all-all a) in
-        let g : First at (causes start (record { bytes = part; ended = true })) (number-and-line n at) = rw (e, s) at f in
-        rw (has-end-back start part n at g) (ap (Stop n) (sym p))
+        let g : First (causes start (record { bytes = part; ended = true })) n = rw (e, s) at f in
+        rw (has-end start part n .1 g) (ap (Stop n) (sym p))
 
     stops-below : (start : List A) (part next : List ℕ) (more : List (List ℕ)) (u : Line) (upper rest : List Line) (above : List A) → linesIn (part ∷ next ∷ more) ≡ u ∷ rest → readLines recordOf start (partsOf (u ∷ upper)) ≡ All above → ((r : A) → linesIn (next ∷ more) ≡ rest → readLines recordOf (start ++ (r ∷ [])) (partsOf upper) ≡ All above → readLines recordOf (start ++ (r ∷ [])) (next ∷ more) ≡ Stop n at) → readLines recordOf start (part ∷ next ∷ more) ≡ Stop n at
     unfolding readLines linesIn partsOf continued
@@ -223,10 +208,10 @@ module _ {A : Type 0} (recordOf : List A → List (List ℕ) → Answer A) (caus
         go t (recordOf start (split tab part)) (sym (read-more start part upper) ∙ b)
       where
         go : linesIn (next ∷ more) ≡ rest → (x : Answer A) → continued start x (λ r. readLines recordOf (start ++ (r ∷ [])) (partsOf upper)) ≡ All above → continued start x (λ r. readLines recordOf (start ++ (r ∷ [])) (next ∷ more)) ≡ Stop n at
-        go t (No m) q = absurd (stop-all q)
-        go t (Of r) q = below r t q
+        go t (refused m) q = absurd (stop-all q)
+        go t (accepted r) q = below r t q
 
-    stops-at : (start : List A) (parts : List (List ℕ)) (upper : List Line) (line : Line) (lower : List Line) (above : List A) → linesIn parts ≡ upper ++ (line ∷ lower) → at ≡ length start + length upper + 1 → readLines recordOf start (partsOf upper) ≡ All above → First at (causes above line) (number-and-line n at) → readLines recordOf start parts ≡ Stop n at
+    stops-at : (start : List A) (parts : List (List ℕ)) (upper : List Line) (line : Line) (lower : List Line) (above : List A) → linesIn parts ≡ upper ++ (line ∷ lower) → at ≡ length start + length upper + 1 → readLines recordOf start (partsOf upper) ≡ All above → First (causes above line) n → readLines recordOf start parts ≡ Stop n at
     stops-at start [] upper line lower above l p a f = absurd (nil-append upper line lower (unfold linesIn in l))
     stops-at start (last ∷ []) upper line lower above l p a f = stops-last start last upper line lower above l p f
     stops-at start (part ∷ next ∷ more) [] line lower above l p a f = stops-here start part next more line lower above l (omega arith) (sym (read-none start) ∙ a) f
@@ -267,30 +252,25 @@ module _ {A : Type 0} (recordOf : List A → List (List ℕ) → Answer A) (caus
             stops-at n at [] (split LF text) (r .upper) (f .line) (r .lower) (f .above) (r .lines) (omega (arith, r .place)) (sym (read-upper (r .upper) (f .line ∷ r .lower) (r .lines)) ∙ r .accepted) (f .first)
 
     -- a line that is reached has a first cause, or none
-    no-cause : (above : List A) (line : Line) (at : ℕ) → ((n : ℕ) → First at (causes above line) (number-and-line n at) → ⊥) → noneHolds (causes above line) ≡ true
-    unfolding lineCauses noneHolds all
-    no-cause above line at f = go (line .ended) (line .bytes) f
+    no-cause : (above : List A) (line : Line) → ((n : ℕ) → First (causes above line) n → ⊥) → noneHolds (causes above line) ≡ true
+    no-cause above line f = go (lineAnswer above line) refl
       where
-        go : (t : Bool) (bytes : List ℕ) → ((n : ℕ) → First at (causes above (record { bytes = bytes; ended = t })) (number-and-line n at) → ⊥) → noneHolds (causes above (record { bytes = bytes; ended = t })) ≡ true
-        go false bytes f = absurd (f 12 (lacks-end above bytes 12 at refl))
-        go true bytes f = by-record (recordOf above (split tab bytes)) refl
-          where
-            by-record : (x : Answer A) → recordOf above (split tab bytes) ≡ x → noneHolds (causesOf above (split tab bytes)) ≡ true
-            by-record (No n) p = absurd (f n (has-end above bytes n at p))
-            by-record (Of r) p = to-none at tt (causesOf above (split tab bytes)) tt (sym (has above (split tab bytes) at) ∙ unfold lineReply in ap (lineReply at) p)
+        go : (x : Answer A) → lineAnswer above line ≡ x → noneHolds (causes above line) ≡ true
+        go (refused n) p = absurd (f n (line-first above line n .0 p))
+        go (accepted r) p = accepts-none (lineAnswer above line) (causes above line) (has-line above line) .0 (r, p)
 
     accepts : ((rs : List A) × (read text ≡ All rs)) ↔ NoCause causesOf read text
     accepts = (to, back (read text) refl)
       where
         to : ((rs : List A) × (read text ≡ All rs)) → NoCause causesOf read text
         to (rs, e) above line at r =
-            no-cause above line at (λ n f. stop-all (sym (refuses n at .1 (record { above = above; line = line; reached = r; first = f })) ∙ e))
+            no-cause above line (λ n f. stop-all (sym (refuses n at .1 (record { above = above; line = line; reached = r; first = f })) ∙ e))
 
         back : (x : Records A) → read text ≡ x → NoCause causesOf read text → (rs : List A) × (read text ≡ All rs)
         back (All rs) e h = (rs, e)
         back (Stop n at) e h =
             let f = refuses n at .0 e in
-            absurd (differ (sym (from-none at (tt {0}) (causes (f .above) (f .line)) (h (f .above) (f .line) at (f .reached))) ∙ from-first at (tt {0}) (causes (f .above) (f .line)) (number-and-line n at) (f .first)))
+            absurd (first-none (causes (f .above) (f .line)) n (f .first) (h (f .above) (f .line) at (f .reached)))
 
     -- ---- the numbers
 
@@ -299,19 +279,19 @@ module _ {A : Type 0} (recordOf : List A → List (List ℕ) → Answer A) (caus
       abbrev numbered : Cause → Bool
       numbered c = any (eqb (numberOf (c .refusal))) numbers
 
-      first-numbered : (at n : ℕ) (cs : List Cause) → all numbered cs ≡ true → First at cs (number-and-line n at) → any (eqb n) numbers ≡ true
+      first-numbered : (n : ℕ) (cs : List Cause) → all numbered cs ≡ true → First cs n → any (eqb n) numbers ≡ true
       unfolding First all
-      first-numbered at n [] h f = absurd f
-      first-numbered at n (c ∷ cs) h (inl (p, e)) =
-          subst (λ (m : ℕ). any (eqb m) numbers ≡ true) (returned-number (c .refusal) n at e) (and-left (numbered c) (all numbered cs) h)
-      first-numbered at n (c ∷ cs) h (inr (p, f)) = first-numbered at n cs (and-right (numbered c) (all numbered cs) h) f
+      first-numbered n [] h f = absurd f
+      first-numbered n (c ∷ cs) h (inl (p, e)) =
+          subst (λ (m : ℕ). any (eqb m) numbers ≡ true) e (and-left (numbered c) (all numbered cs) h)
+      first-numbered n (c ∷ cs) h (inr (p, f)) = first-numbered n cs (and-right (numbered c) (all numbered cs) h) f
 
       pub reads : any (eqb 12) numbers ≡ true → ((above : List A) (fields : List (List ℕ)) → all numbered (causesOf above fields) ≡ true) → Reads causesOf read numbers text
       reads twelve each =
           record {
             refuses = refuses;
             accepts = accepts;
-            numbered = λ n at e. (let f = refuses n at .0 e in first-numbered at n (causes (f .above) (f .line)) (line-numbered (f .above) (f .line)) (f .first));
+            numbered = λ n at e. (let f = refuses n at .0 e in first-numbered n (causes (f .above) (f .line)) (line-numbered (f .above) (f .line)) (f .first));
           }
         where
           line-numbered : (above : List A) (line : Line) → all numbered (causes above line) ≡ true

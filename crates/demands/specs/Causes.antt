@@ -6,7 +6,7 @@ use mathlib.Core.List.{List, [], _∷_}
 use Prim.Native.Nat.{ℕ}
 use Rattle.declare.specs.declared.Refusal.{Refusal}
 use Rattle.declare.specs.Lists.{all}
-use Rattle.declare.specs.Refusals.{Returned, returned}
+use Rattle.declare.specs.Refusals.{numberOf}
 
 -- a cause of refusal, and whether it holds
 pub record Cause : Type 0 where
@@ -16,11 +16,11 @@ pub record Cause : Type 0 where
 abbrev pub cause : Refusal → Bool → Cause
 cause refusal holds = record { refusal = refusal; holds = holds }
 
--- n is returned, at this line, for the first cause that holds: it holds, and no earlier one does
-unfoldable pub First : ℕ → List Cause → Returned → Type 0
-First line [] n = ⊥
-First line (c ∷ later) n =
-    ((c .holds ≡ true) × (returned (c .refusal) line ≡ n)) ⊎ ((c .holds ≡ false) × First line later n)
+-- n is the number of the first cause that holds: it holds, and no earlier one does
+unfoldable pub First : List Cause → ℕ → Type 0
+First [] n = ⊥
+First (c ∷ later) n =
+    ((c .holds ≡ true) × (numberOf (c .refusal) ≡ n)) ⊎ ((c .holds ≡ false) × First later n)
 
 unfoldable pub noneHolds : List Cause → Bool
 noneHolds causes = all (λ c. not (c .holds)) causes

@@ -16,34 +16,31 @@ use Rattle.declare.specs.declared.Table.{Table}
 use Rattle.declare.specs.declared.Refusal.the-variants.{OutOfRange, TimeFalls, TooMany, WrongPhase, NotFound, InvalidRecord, TallyOverflow}
 use Rattle.declare.specs.Events.{wellFormed}
 use Rattle.declare.specs.Rules.{validTable}
-use Rattle.declare.specs.Continuations.{horizon}
-use Rattle.declare.specs.Steps.{capacity}
-use Rattle.declare.specs.Refusals.{Returned}
-use Rattle.judge.specs.Cells.{standingIn}
+use Rattle.declare.specs.Limits.{mostEvents}
+use Rattle.declare.specs.Answers.{Answer, accepted, refused, afterCall}
 use Rattle.run.specs.declared.Run.{Run}
-use Rattle.run.specs.Replies.{Reply, accepted, refused, runAfter}
-use Rattle.run.specs.Records.{eventsOf, validRun}
+use Rattle.run.specs.Records.{horizonOf, totalsIn, validRun}
 use Rattle.run.specs.Start.{startOf}
 use Rattle.run.specs.Take.{takeOf}
 use Rattle.run.specs.Close.{closeOf}
-use Rattle.run.specs.Queries.{oneOf, standingOf, totalsBy, totalsOf}
+use Rattle.run.specs.Queries.{oneOf, standingOf, totalsOf}
 use Rattle.tally.specs.declared.Tally.{Tally}
 use Rattle.tally.specs.declared.Counted.{Counted}
-use Rattle.tally.specs.declared.Answer.{Answer}
-use Rattle.tally.specs.Tally.{fits, absorbOf, answerReply, tallyAfter, Counts, Absorbs}
+use Rattle.tally.specs.declared.Outcome.{Outcome}
+use Rattle.tally.specs.Tally.{hasRoomFor, absorbOf, tallyAnswer, Counts, Absorbs}
 use Rattle.line.specs.Texts.{All, Stop}
 use Rattle.cycle_text.specs.Cycle.{cycleTextOf}
 use Rattle.rule_text.specs.Rules.{rulesTextOf}
 use Rattle.notebook.specs.declared.Text.the-variants.{Rules, Cycle}
-use Rattle.notebook.specs.Notebook.{accepted as readAs, refused as notRead, notebookOf}
+use Rattle.notebook.specs.Notebook.{readAs, notRead, notebookOf}
 use Rattle.demands.specs.Causes.{Cause, cause, First, noneHolds}
 use Rattle.demands.specs.LineCauses.{eventCauses, ruleCauses}
 use Rattle.demands.specs.Texts.{Reads}
 
--- a call on records; where document 01 returns a line, it is 0
-pub record Refuses {A : Type 0} (causes : List Cause) (reply : Reply A) : Type 0 where
-  pub refuses : (n : Returned) → (reply ≡ refused n) ↔ First 0 causes n
-  pub accepts : ((a : A) × (reply ≡ accepted a)) ↔ (noneHolds causes ≡ true)
+-- a call on records; a number that comes with a line (`hasLine`) comes with line 0
+pub record Refuses {A : Type 0} (causes : List Cause) (answer : Answer A) : Type 0 where
+  pub refuses : (n : ℕ) → (answer ≡ refused n) ↔ First causes n
+  pub accepts : ((a : A) × (answer ≡ accepted a)) ↔ (noneHolds causes ≡ true)
 
 -- ---- the orders
 
@@ -57,8 +54,8 @@ takeCauses r e =
     cause InvalidRecord (not (validRun r))
     ∷ cause WrongPhase (r .closed)
     ∷ cause OutOfRange (not (wellFormed e))
-    ∷ cause TimeFalls (ltb (e .time) (horizon (eventsOf r)))
-    ∷ cause TooMany (leb capacity (r .count))
+    ∷ cause TimeFalls (ltb (e .time) (horizonOf r))
+    ∷ cause TooMany (leb mostEvents (r .count))
     ∷ []
 
 -- "close: 11, 9"
@@ -82,7 +79,7 @@ absorbCauses r rule t =
     cause InvalidRecord (not (validRun r))
     ∷ cause NotFound (not (oneOf (r .table .count) rule))
     ∷ cause WrongPhase (not (r .closed))
-    ∷ cause TallyOverflow (not (fits t (totalsBy (standingIn (r .cells) rule) (r .count))))
+    ∷ cause TallyOverflow (not (hasRoomFor t (totalsIn r rule)))
     ∷ []
 
 -- "rules first": the notebook looks at the cycle text if the rules are accepted
@@ -104,14 +101,16 @@ pub record Demand1 : Type 0 where
   pub totals : (r : Run) (rule : ℕ) → Refuses (totalsCauses r rule) (totalsOf r rule)
   pub absorb : (r : Run) (rule : ℕ) (t : Tally) → Refuses (absorbCauses r rule t) (absorbOf r rule t)
   -- in the code a tally absorbs what was counted of a rule
-  pub absorbs : (r : Run) (rule : ℕ) (c : Counted) (before after : Tally) (a : Answer)
+  pub absorbs : (r : Run) (rule : ℕ) (c : Counted) (before next : Tally) (o : Outcome)
       → Counts r rule c
-      → Absorbs before c after a
-      → (answerReply after a ≡ absorbOf r rule before) × (after ≡ tallyAfter before (absorbOf r rule before))
+      → Absorbs before c next o
+      → (tallyAnswer next o ≡ absorbOf r rule before) × (next ≡ afterCall before (absorbOf r rule before))
   -- "a refusal alters neither run nor tally"
-  pub take-keeps : (r : Run) (e : Event) (n : Returned) → takeOf r e ≡ refused n → runAfter r (takeOf r e) ≡ r
-  pub close-keeps : (r : Run) (n : Returned) → closeOf r ≡ refused n → runAfter r (closeOf r) ≡ r
-  pub tally-keeps : (r : Run) (rule : ℕ) (t : Tally) (n : Returned) → absorbOf r rule t ≡ refused n → tallyAfter t (absorbOf r rule t) ≡ t
+  pub take-keeps : (r : Run) (e : Event) (n : ℕ) → takeOf r e ≡ refused n → afterCall r (takeOf r e) ≡ r
+  pub close-keeps : (r : Run) (n : ℕ) → closeOf r ≡ refused n → afterCall r (closeOf r) ≡ r
+  pub tally-keeps : (r : Run) (rule : ℕ) (t : Tally) (n : ℕ)
+      → absorbOf r rule t ≡ refused n
+      → afterCall t (absorbOf r rule t) ≡ t
   -- the texts, with the numbers that their readers can give
   pub rules-text : (text : List ℕ) → Reads ruleCauses rulesTextOf (1 ∷ 2 ∷ 3 ∷ 4 ∷ 5 ∷ 6 ∷ 8 ∷ 12 ∷ []) text
   pub cycle-text : (text : List ℕ) → Reads eventCauses cycleTextOf (1 ∷ 2 ∷ 3 ∷ 7 ∷ 8 ∷ 12 ∷ []) text

@@ -13,7 +13,8 @@ use Rattle.declare.specs.declared.Table.{Table}
 use Rattle.declare.specs.declared.Standing.{Standing}
 use Rattle.declare.specs.declared.Standing.the-variants.{Idle, Fulfilled, Violated}
 use Rattle.declare.specs.Events.{eventAt}
-use Rattle.declare.specs.Rules.{validTable}
+use Rattle.declare.specs.Limits.{mostRules}
+use Rattle.declare.specs.Rules.{validTable, ruleAt}
 use Rattle.declare.specs.Suits.{activationAt}
 use Rattle.declare.specs.Verdicts.{verdict}
 use Rattle.declare.specs.Steps.{taken}
@@ -22,19 +23,18 @@ use Rattle.formula.specs.Formula.{Formula, Holds}
 use Rattle.formula.specs.Table.{fixedOf, publishedOf}
 use Rattle.formula.specs.Agreement.{Plain}
 use Rattle.run.specs.declared.Run.{Run}
-use Rattle.run.specs.Replies.{accepted}
-use Rattle.run.specs.Records.{ruleAt}
+use Rattle.declare.specs.Answers.{accepted}
 use Rattle.run.specs.Close.{closedRun}
 use Rattle.run.specs.Queries.{standingOf}
 use Rattle.run.specs.Takes.{grown}
 use Rattle.line.specs.Texts.{All}
 use Rattle.cycle_text.specs.Cycle.{cycleTextOf}
 use Rattle.rule_text.specs.Rules.{rulesTextOf}
-use Rattle.rule_text.specs.Reads.{tableOf}
-use Rattle.notebook.specs.Notebook.{accepted as readAs, notebookOf}
+use Rattle.declare.specs.Slots.{tableOf}
+use Rattle.notebook.specs.Notebook.{readAs, notebookOf}
 
 -- rule k and position i, both of the cycle
-pub record Within (t : Table) (es : List Event) (k i : ℕ) : Type 0 where
+pub record InCycle (t : Table) (es : List Event) (k i : ℕ) : Type 0 where
   pub rule-low : 1 ≤ k
   pub rule-high : k ≤ t .count
   pub position-low : 1 ≤ i
@@ -57,8 +57,9 @@ pub record Follows (rule : Rule) (es : List Event) (r : Run) (k i : ℕ) : Type 
   pub verdicts : standingOf r k i ≡ accepted (verdict rule es i)
   -- an event that does not fit stands idle, and no other does
   pub idle : (standingOf r k i ≡ accepted Idle) ↔ (activationAt rule es i ≡ false)
-  -- one that fits is an activation, and the formula decides; 3 and 6 as document 01 fixes them, with
-  -- the window from the activation, and the event at hand tested for "no activation of the rule"
+  -- one that fits is an activation, and the formula decides; 3 and 6 as document 01 fixes them,
+  -- with the window from the activation, and the event at hand tested for "no activation of the
+  -- rule"
   pub fixed : activationAt rule es i ≡ true → Decides r k i rule es (fixedOf rule)
   -- Table 2 to the letter; 3 and 6 where the window is 0 to no end, without activation condition
   pub published : activationAt rule es i ≡ true
@@ -70,13 +71,13 @@ pub record Follows (rule : Rule) (es : List Event) (r : Run) (k i : ℕ) : Type 
 
 -- the closed run r of the rules t and the events es
 abbrev pub FollowsFormulas : Table → List Event → Run → Type 0
-FollowsFormulas t es r = (k i : ℕ) → Within t es k i → Follows (ruleAt t k) es r k i
+FollowsFormulas t es r = (k i : ℕ) → InCycle t es k i → Follows (ruleAt t k) es r k i
 
 -- a grown run, closed; proved as `demand2-grown`
 abbrev pub Demand2Grown : Type 0
 Demand2Grown =
     (t : Table) (offered : List Event)
-    → length (t .rules) ≡ 16
+    → length (t .rules) ≡ mostRules
     → validTable t ≡ true
     → FollowsFormulas t (taken offered) (closedRun (grown t offered))
 

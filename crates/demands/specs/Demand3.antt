@@ -11,7 +11,8 @@ use Rattle.declare.specs.declared.Rule.{Rule}
 use Rattle.declare.specs.declared.Standing.{Standing}
 use Rattle.declare.specs.declared.Standing.the-variants.{Idle, Open}
 use Rattle.declare.specs.Lists.{all}
-use Rattle.declare.specs.Rules.{rulesOf, validTable}
+use Rattle.declare.specs.Limits.{mostRules}
+use Rattle.declare.specs.Rules.{rulesOf, validTable, ruleAt}
 use Rattle.declare.specs.Suits.{activationAt}
 use Rattle.declare.specs.Standings.{isFulfilled, isViolated, isDecided}
 use Rattle.declare.specs.Verdicts.{verdict}
@@ -19,18 +20,18 @@ use Rattle.declare.specs.Continuations.{horizon, continuation}
 use Rattle.declare.specs.Steps.{taken}
 use Rattle.declare.specs.Exactness.{InEvery, InSome}
 use Rattle.run.specs.declared.Run.{Run}
-use Rattle.run.specs.Replies.{accepted}
-use Rattle.run.specs.Records.{eventsOf, ruleAt, Sized}
+use Rattle.declare.specs.Answers.{accepted}
+use Rattle.run.specs.Records.{eventsOf, Sized}
 use Rattle.run.specs.Take.{takeOf}
 use Rattle.run.specs.Close.{closedRun}
 use Rattle.run.specs.Queries.{standingOf, totalsOf}
 use Rattle.run.specs.Takes.{grown, finished, RunOf, Takes}
 use Rattle.line.specs.Fields.{isByte}
 use Rattle.cycle_text.specs.Written.{eventsText}
-use Rattle.rule_text.specs.Reads.{tableOf}
-use Rattle.rule_text.specs.Written.{rulesText, tidy}
-use Rattle.notebook.specs.Notebook.{accepted as readAs, notebookOf}
-use Rattle.demands.specs.Demand2.{Within, StandsFulfilled, StandsViolated}
+use Rattle.declare.specs.Slots.{tableOf}
+use Rattle.rule_text.specs.Written.{rulesText, canonical}
+use Rattle.notebook.specs.Notebook.{readAs, notebookOf}
+use Rattle.demands.specs.Demand2.{InCycle, StandsFulfilled, StandsViolated}
 
 -- ---- early verdicts
 
@@ -51,7 +52,7 @@ pub record Early (rule : Rule) (es : List Event) (r : Run) (k i : ℕ) : Type 0 
 
 -- of a run with the rules t and the events es
 abbrev pub EarlyVerdicts : Table → List Event → Run → Type 0
-EarlyVerdicts t es r = (k i : ℕ) → Within t es k i → Early (ruleAt t k) es r k i
+EarlyVerdicts t es r = (k i : ℕ) → InCycle t es k i → Early (ruleAt t k) es r k i
 
 -- a record nobody grew, r, and the one after an accepted take, `next`: "decided standings at taken
 -- positions are carried over, all others follow from the events now in the record"
@@ -63,14 +64,14 @@ pub record TakenFrom (r next : Run) (k i : ℕ) : Type 0 where
 abbrev pub EveryRecord : Type 0
 EveryRecord =
     (r next : Run) (e : Event) → Sized r → takeOf r e ≡ accepted next
-    → (k i : ℕ) → Within (next .table) (eventsOf next) k i → TakenFrom r next k i
+    → (k i : ℕ) → InCycle (next .table) (eventsOf next) k i → TakenFrom r next k i
 
 -- ---- the notebook
 
 -- the table read from the text of t's rules: the same rules, with noComparison and noRule in the
 -- slots that are not in use
 abbrev pub rewritten : Table → Table
-rewritten t = tableOf (map tidy (rulesOf t))
+rewritten t = tableOf (map canonical (rulesOf t))
 
 -- a list of numbers that a reader can be handed as bytes, at most so many
 pub record Bytes (most : ℕ) (text : List ℕ) : Type 0 where
@@ -100,4 +101,4 @@ pub record Demand3 (t : Table) (offered : List Event) : Type 0 where
 
 -- proved as `demand3`
 abbrev pub EveryTable : Type 0
-EveryTable = (t : Table) (offered : List Event) → length (t .rules) ≡ 16 → validTable t ≡ true → Demand3 t offered
+EveryTable = (t : Table) (offered : List Event) → length (t .rules) ≡ mostRules → validTable t ≡ true → Demand3 t offered

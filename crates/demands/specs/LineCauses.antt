@@ -11,7 +11,8 @@ use Rattle.declare.specs.declared.Rule.{Rule}
 use Rattle.declare.specs.declared.Operand.the-variants.{Exact}
 use Rattle.declare.specs.declared.Refusal.the-variants.{FieldCount, NumberForm, OutOfRange, ComparisonForm, ReadingTwice, EmptyWindow, TimeFalls, TooMany}
 use Rattle.declare.specs.Lists.{any}
-use Rattle.declare.specs.Events.{inRange, lastTime}
+use Rattle.declare.specs.Limits.{lastActivity, lastTemplate, mostRules, mostEvents}
+use Rattle.declare.specs.Events.{latest, inRange, lastTime}
 use Rattle.number.specs.Number.{naturalForm, integerForm, dash, valueOf, integerValue}
 use Rattle.line.specs.Fields.{split}
 use Rattle.rule_text.specs.Comparisons.{readingDigit}
@@ -85,8 +86,8 @@ conditionCauses correlation field = unlessDash field (comparisonCauses correlati
 abbrev pub eventFieldCauses : List (List ℕ) → List (List Cause)
 eventFieldCauses fields =
     (cause FieldCount (not (eqb (length fields) 6)) ∷ [])
-    ∷ numberCauses 0 4294967295 (getD fields 0 [])
-    ∷ numberCauses 1 64 (getD fields 1 [])
+    ∷ numberCauses 0 latest (getD fields 0 [])
+    ∷ numberCauses 1 lastActivity (getD fields 1 [])
     ∷ readingCauses (getD fields 2 [])
     ∷ readingCauses (getD fields 3 [])
     ∷ readingCauses (getD fields 4 [])
@@ -96,7 +97,7 @@ eventFieldCauses fields =
 -- "time below the last taken", "257th event"
 abbrev pub eventPlaceCauses : List Event → ℕ → List (List Cause)
 eventPlaceCauses above time =
-    (cause TimeFalls (ltb time (lastTime above)) ∷ []) ∷ (cause TooMany (leb 256 (length above)) ∷ []) ∷ []
+    (cause TimeFalls (ltb time (lastTime above)) ∷ []) ∷ (cause TooMany (leb mostEvents (length above)) ∷ []) ∷ []
 
 unfoldable pub eventCauses : List Event → List (List ℕ) → List Cause
 eventCauses above fields = inTurn (eventFieldCauses fields ++ eventPlaceCauses above (valueOf (getD fields 0 [])))
@@ -106,11 +107,11 @@ eventCauses above fields = inTurn (eventFieldCauses fields ++ eventPlaceCauses a
 abbrev pub ruleFieldCauses : List (List ℕ) → List (List Cause)
 ruleFieldCauses fields =
     (cause FieldCount (not (eqb (length fields) 7)) ∷ [])
-    ∷ numberCauses 1 12 (getD fields 0 [])
-    ∷ numberCauses 1 64 (getD fields 1 [])
-    ∷ numberCauses 1 64 (getD fields 2 [])
-    ∷ numberCauses 0 4294967295 (getD fields 3 [])
-    ∷ unlessDash (getD fields 4 []) (numberCauses 1 4294967295 (getD fields 4 []))
+    ∷ numberCauses 1 lastTemplate (getD fields 0 [])
+    ∷ numberCauses 1 lastActivity (getD fields 1 [])
+    ∷ numberCauses 1 lastActivity (getD fields 2 [])
+    ∷ numberCauses 0 latest (getD fields 3 [])
+    ∷ unlessDash (getD fields 4 []) (numberCauses 1 latest (getD fields 4 []))
     ∷ conditionCauses false (getD fields 5 [])
     ∷ conditionCauses true (getD fields 6 [])
     ∷ unlessDash (getD fields 4 []) (cause EmptyWindow (leb (valueOf (getD fields 4 [])) (valueOf (getD fields 3 []))) ∷ [])
@@ -118,7 +119,7 @@ ruleFieldCauses fields =
 
 -- "17th rule"
 abbrev pub rulePlaceCauses : List Rule → List (List Cause)
-rulePlaceCauses above = (cause TooMany (leb 16 (length above)) ∷ []) ∷ []
+rulePlaceCauses above = (cause TooMany (leb mostRules (length above)) ∷ []) ∷ []
 
 unfoldable pub ruleCauses : List Rule → List (List ℕ) → List Cause
 ruleCauses above fields = inTurn (ruleFieldCauses fields ++ rulePlaceCauses above)

@@ -11,7 +11,6 @@ use lib.Dec.{eqb}
 use lib.ListN.{length}
 use Rattle.declare.specs.declared.Refusal.the-variants.{NoLineEnd}
 use Rattle.declare.specs.Lists.{any}
-use Rattle.declare.specs.Refusals.{number-and-line}
 use Rattle.number.specs.Number.{none}
 use Rattle.line.specs.Fields.{LF, tab, split}
 use Rattle.line.specs.Texts.{Records, All, Stop}
@@ -59,7 +58,7 @@ module _ {A : Type 0} (causesOf : List A → List (List ℕ) → List Cause) (re
     pub above : List A
     pub line : Line
     pub reached : Reached text above line at
-    pub first : First at (lineCauses above line) (number-and-line n at)
+    pub first : First (lineCauses above line) n
 
   -- no line that is reached has a cause
   abbrev pub NoCause : List ℕ → Type 0

@@ -1,15 +1,8 @@
 // The standings of a cycle's positions under its rules.
-use declare::Standing;
-
-mod template; // template.rt: the template of a code, and what a target says
+pub mod template; // template.rt: the template of a code, and what a target says
 mod columns; // columns.rt: the events by column
 mod flags; // flags.rt: which events are activations of which rule
 mod check; // check.rt: tests made ready for a scan
-mod scan; // scan.rt: the first position that fits, and the neighbouring activations
+mod scan; // scan.rt: the first position that suits, and the neighbouring activations
 mod span; // span.rt: the positions that a template reaches
 pub mod cells; // cells.rt: all standings of a run
-
-// A standing as the runs hold it: sixteen rows, one a rule, of 256 cells, one a position, in one flat array.
-pub struct Cell {
-    pub standing: Standing,
-}

@@ -1,4 +1,5 @@
--- Laws of parts: a list of bytes by what stands at an index, its first part and what follows it, and joined parts.
+-- Laws of parts: a list of bytes by what stands at an index, its first part and what follows it,
+-- and joined parts.
 use mathlib.Core.Path.{_≡_, refl, _∙_, ap}
 use mathlib.Core.Bool.{Bool, true, false, cond}
 use mathlib.Core.List.{List, [], _∷_}
@@ -96,20 +97,6 @@ before-take b (x ∷ s) = go (eqb x b) refl (before-take b s)
     go true e h = rw e
     go false e h = rw e (ap (λ (k : List ℕ). x ∷ k) h)
 
-pub length-before : (b : ℕ) (s : List ℕ) → length (before b s) ≡ indexOf b s
-unfolding before indexOf
-length-before b [] = refl
-length-before b (x ∷ s) = go (eqb x b) refl (length-before b s)
-  where
-    go : (t : Bool) → eqb x b ≡ t → length (before b s) ≡ indexOf b s → length (before b (x ∷ s)) ≡ indexOf b (x ∷ s)
-    go true e h = rw e
-    go false e h = rw e (ap suc h)
-
--- the part of a slice from the byte after the first b on, as the borrow checker states it
-pub part-following : (b : ℕ) (s : List ℕ) (l : ℕ) → l ≡ indexOf b s → take (length s - (l + 1)) (drop (l + 1) s) ≡ following b s
-unfolding following
-part-following b s l h = rw h (part-rest s (indexOf b s + 1))
-
 following-first : (b x : ℕ) (s : List ℕ) → eqb x b ≡ true → following b (x ∷ s) ≡ s
 unfolding following
 following-first b x s e = rw (index-first b x s e)
@@ -150,60 +137,17 @@ count-parts b (x ∷ s) = go (eqb x b) refl (count-parts b s)
 -- ---- the fields of a line, of which what follows it is not cut off
 
 -- a first field that is not the last: b stands before the line's end e
-record First (e b : ℕ) (s : List ℕ) : Type 0 where
-  index : indexOf b s < indexOf e s
-  fields : split b (before e s) ≡ before b s ∷ split b (before e (following b s))
-
-first-field : (e b : ℕ) (s : List ℕ) → 1 < length (split b (before e s)) → First e b s
+pub first-field : (e b : ℕ) (s : List ℕ) → 1 < length (split b (before e s)) → split b (before e s) ≡ before b s ∷ split b (before e (following b s))
 unfolding split before
 first-field e b [] h = absurd (omega arith)
 first-field e b (x ∷ s) h = go (eqb x e) (eqb x b) refl refl h (first-field e b s)
   where
-    go : (t u : Bool) → eqb x e ≡ t → eqb x b ≡ u → 1 < length (split b (before e (x ∷ s))) → (1 < length (split b (before e s)) → First e b s) → First e b (x ∷ s)
+    go : (t u : Bool) → eqb x e ≡ t → eqb x b ≡ u → 1 < length (split b (before e (x ∷ s))) → (1 < length (split b (before e s)) → split b (before e s) ≡ before b s ∷ split b (before e (following b s))) → split b (before e (x ∷ s)) ≡ before b (x ∷ s) ∷ split b (before e (following b (x ∷ s)))
     go true u p q l f = absurd (omega (arith, rw p at l))
-    go false true p q l f =
-        record {
-          index = rw (index-first b x s q, index-later e x s p) (omega arith);
-          fields = rw (following-first b x s q, p, q);
-        }
+    go false true p q l f = rw (following-first b x s q, p, q)
     go false false p q l f =
         let g : 1 < length (split b (before e s)) = rw (p, q, length-onto x (split b (before e s))) at l in
-        let w = f g in
-        record {
-          index = rw (index-later b x s q, index-later e x s p) (omega (arith, w .index));
-          fields = rw (following-later b x s q, p, q) (ap (onto x) (w .fields) ∙ onto-cons x _ _);
-        }
-
--- in a line of n fields more: b stands in the text, before the n
-pub record Next (e b n : ℕ) (s : List ℕ) : Type 0 where
-  pub index : indexOf b s + 1 ≤ length s
-  pub fields : split b (before e s) ≡ before b s ∷ split b (before e (following b s))
-  pub left : length (split b (before e (following b s))) ≡ n
-
-pub next-field : (e b n : ℕ) (s : List ℕ) → length (split b (before e s)) ≡ suc n → 0 < n → Next e b n s
-next-field e b n s h l =
-    let f = first-field e b s (omega arith) in
-    record {
-      index = omega (arith, f .index, index-le e s);
-      fields = f .fields;
-      left = omega (arith, rw (f .fields) at h);
-    }
-
--- the same where the code has passed the field: p is the part in hand, l the length it found
-pub record Passed (e b n : ℕ) (s p : List ℕ) (l : ℕ) : Type 0 where
-  pub room : l + 1 ≤ length p
-  pub part : take (length p - (l + 1)) (drop (l + 1) p) ≡ following b s
-  pub left : length (split b (before e (following b s))) ≡ n
-
-pub pass-field : (e b n : ℕ) (s p : List ℕ) (l : ℕ) → p ≡ s → l ≡ indexOf b p → length (split b (before e s)) ≡ suc n → 0 < n → Passed e b n s p l
-pass-field e b n s p l q h k m =
-    let f = next-field e b n s k m in
-    let i : indexOf b p ≡ indexOf b s = ap (indexOf b) q in
-    record {
-      room = omega (arith, f .index, ap length q);
-      part = part-following b p l h ∙ ap (following b) q;
-      left = f .left;
-    }
+        rw (following-later b x s q, p, q) (ap (onto x) (f g) ∙ onto-cons x _ _)
 
 -- the last field is all of the line
 pub last-field : (b : ℕ) (s : List ℕ) → length (split b s) ≡ 1 → split b s ≡ s ∷ []

@@ -1,4 +1,5 @@
--- Splitting and joining undo each other: joined parts that lack the separator split into the same parts, and parts of a split join to the same bytes.
+-- Splitting and joining undo each other: joined parts that lack the separator split into the same
+-- parts, and parts of a split join to the same bytes.
 use mathlib.Core.Path.{_≡_, refl, _∙_, ap}
 use mathlib.Core.Bool.{Bool, true, false, cond, false≢true}
 use mathlib.Core.List.{List, [], _∷_, _++_, append-nil}
@@ -29,7 +30,7 @@ module _ (b x : ℕ) (s : List ℕ) (h : lacks b (x ∷ s) ≡ true) where
       go true e = absurd (false≢true (rw e at h))
       go false e = (e, rw e at h)
 
-pub lacks-append : (b : ℕ) (xs ys : List ℕ) → lacks b xs ≡ true → lacks b ys ≡ true → lacks b (xs ++ ys) ≡ true
+lacks-append : (b : ℕ) (xs ys : List ℕ) → lacks b xs ≡ true → lacks b ys ≡ true → lacks b (xs ++ ys) ≡ true
 unfolding lacks
 lacks-append b [] ys h l = l
 lacks-append b (x ∷ xs) ys h l =

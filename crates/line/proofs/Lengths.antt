@@ -79,7 +79,7 @@ pub data Each : List ℕ → List (List ℕ) → Type 0 where
   _and_ : {n : ℕ} {ns p : List ℕ} {ps : List (List ℕ)} → Within n p → Each ns ps → Each (n ∷ ns) (p ∷ ps)
 
 -- the most bytes of such parts with a byte before each, and with a byte between them
-abbrev pub eachMost : List ℕ → ℕ
+abbrev eachMost : List ℕ → ℕ
 eachMost [] = 0
 eachMost (n ∷ ns) = suc (n + eachMost ns)
 

@@ -1,5 +1,6 @@
--- Laws of a text's records, for every kind of record: a text by its first line; a written text read back, and an accepted text written again;
--- and what holds of all records of an accepted text, because it holds after each line.
+-- Laws of a text's records, for every kind of record: a text by its first line; a written text read
+-- back, and an accepted text written again; and what holds of all records of an accepted text,
+-- because it holds after each line.
 use mathlib.Core.Path.{_≡_, refl, sym, _∙_, ap}
 use mathlib.Core.Bool.{Bool, true, false}
 use mathlib.Core.List.{List, [], _∷_, _++_, append-nil, append-assoc}
@@ -12,7 +13,7 @@ use lib.Seq.{take-all}
 use Rattle.declare.specs.Lists.{all}
 use Rattle.number.specs.Number.{none}
 use Rattle.line.specs.Fields.{LF, tab, indexOf, before, following, split, eachAfter, joined}
-use Rattle.line.specs.Answers.{Answer, Of, No, _>>=_}
+use Rattle.declare.specs.Answers.{Answer, accepted, refused, _>>=_}
 use Rattle.line.specs.Texts.{All, Stop, lineAfter, continued, linesOf, textOf, lineOf, writtenLine, writtenText}
 use Rattle.line.proofs.Fields.{before-take, parts}
 use Rattle.line.proofs.Joined.{lacks, split-before, split-joined, lacks-joined, joined-split}
@@ -96,7 +97,7 @@ module _ {A : Type 0} (recordOf : List A → List (List ℕ) → Answer A) where
 
   -- ---- what holds of the records of an accepted text
 
-  pub kept : (P : List A → Type 0) → ((above : List A) (fields : List (List ℕ)) (r : A) → P above → recordOf above fields ≡ Of r → P (above ++ (r ∷ []))) → (above : List A) (lines : List (List ℕ)) (rs : List A) → P above → linesOf recordOf above lines ≡ All rs → P rs
+  pub kept : (P : List A → Type 0) → ((above : List A) (fields : List (List ℕ)) (r : A) → P above → recordOf above fields ≡ accepted r → P (above ++ (r ∷ []))) → (above : List A) (lines : List (List ℕ)) (rs : List A) → P above → linesOf recordOf above lines ≡ All rs → P rs
   unfolding linesOf continued
   kept P step above [] rs h e = rw (← all-all e) h
   kept P step above (last ∷ []) rs h e = go (none last) refl
@@ -108,12 +109,12 @@ module _ {A : Type 0} (recordOf : List A → List (List ℕ) → Answer A) where
       go (recordOf above (split tab line)) refl (λ (r : A). kept P step (above ++ (r ∷ [])) (next ∷ more) rs)
     where
       go : (a : Answer A) → recordOf above (split tab line) ≡ a → ((r : A) → P (above ++ (r ∷ [])) → linesOf recordOf (above ++ (r ∷ [])) (next ∷ more) ≡ All rs → P rs) → P rs
-      go (Of r) p f = f r (step above (split tab line) r h p) (rw p at e)
-      go (No n) p f = absurd (stop-all (rw p at e))
+      go (accepted r) p f = f r (step above (split tab line) r h p) (rw p at e)
+      go (refused n) p f = absurd (stop-all (rw p at e))
 
-  pub accepted : (P : List A → Type 0) → P [] → ((above : List A) (fields : List (List ℕ)) (r : A) → P above → recordOf above fields ≡ Of r → P (above ++ (r ∷ []))) → (s : List ℕ) (rs : List A) → textOf recordOf s ≡ All rs → P rs
+  pub accepted-records : (P : List A → Type 0) → P [] → ((above : List A) (fields : List (List ℕ)) (r : A) → P above → recordOf above fields ≡ accepted r → P (above ++ (r ∷ []))) → (s : List ℕ) (rs : List A) → textOf recordOf s ≡ All rs → P rs
   unfolding textOf
-  accepted P none step s rs e = kept P step [] (split LF s) rs none e
+  accepted-records P none step s rs e = kept P step [] (split LF s) rs none e
 
   module _ (fieldsOf : A → List (List ℕ)) where
     -- ---- a written text, read
@@ -121,7 +122,7 @@ module _ {A : Type 0} (recordOf : List A → List (List ℕ) → Answer A) where
     -- records, each of which may stand below those above it
     unfoldable pub Follow : List A → List A → Type 0
     Follow above [] = Unit {0}
-    Follow above (r ∷ rs) = Parted fieldsOf r × (recordOf above (fieldsOf r) ≡ Of r) × Follow (above ++ (r ∷ [])) rs
+    Follow above (r ∷ rs) = Parted fieldsOf r × (recordOf above (fieldsOf r) ≡ accepted r) × Follow (above ++ (r ∷ [])) rs
 
     lines-written : (above rs : List A) → Follow above rs → linesOf recordOf above (split LF (writtenText fieldsOf rs)) ≡ All (above ++ rs)
     unfolding Follow linesOf writtenText split continued none
@@ -136,7 +137,7 @@ module _ {A : Type 0} (recordOf : List A → List (List ℕ) → Answer A) where
 
     -- ---- an accepted text, written again
 
-    module _ (back : (above : List A) (fields : List (List ℕ)) (r : A) → recordOf above fields ≡ Of r → fieldsOf r ≡ fields) where
+    module _ (back : (above : List A) (fields : List (List ℕ)) (r : A) → recordOf above fields ≡ accepted r → fieldsOf r ≡ fields) where
       lines-back : (above : List A) (lines : List (List ℕ)) (rs : List A) → linesOf recordOf above lines ≡ All rs → writtenText fieldsOf above ++ joined LF lines ≡ writtenText fieldsOf rs
       unfolding linesOf continued joined eachAfter none
       lines-back above [] rs e = append-nil (writtenText fieldsOf above) ∙ ap (writtenText fieldsOf) (all-all e)
@@ -146,8 +147,8 @@ module _ {A : Type 0} (recordOf : List A → List (List ℕ) → Answer A) where
           go (recordOf above (split tab line)) refl (λ (r : A). lines-back (above ++ (r ∷ [])) (next ∷ more) rs)
         where
           go : (a : Answer A) → recordOf above (split tab line) ≡ a → ((r : A) → linesOf recordOf (above ++ (r ∷ [])) (next ∷ more) ≡ All rs → writtenText fieldsOf (above ++ (r ∷ [])) ++ joined LF (next ∷ more) ≡ writtenText fieldsOf rs) → writtenText fieldsOf above ++ joined LF (line ∷ next ∷ more) ≡ writtenText fieldsOf rs
-          go (No n) p f = absurd (stop-all (rw p at e))
-          go (Of r) p f =
+          go (refused n) p f = absurd (stop-all (rw p at e))
+          go (accepted r) p f =
               let l : joined tab (fieldsOf r) ≡ line = ap (joined tab) (back above (split tab line) r p) ∙ joined-split tab line in
               sym (written-more fieldsOf above r line (joined LF (next ∷ more)) l) ∙ f r (rw p at e)
 

@@ -1,4 +1,5 @@
--- A field that is written reads back as its value, and a value that was read is written as the same field.
+-- A field that is written reads back as its value, and a value that was read is written as the same
+-- field.
 use mathlib.Core.Path.{_≡_, refl, sym, _∙_, ap}
 use mathlib.Core.Bool.{Bool, true, false, _&&_, false≢true}
 use mathlib.Core.List.{List, [], _∷_}
@@ -8,46 +9,26 @@ use borrow.Author.Tests.{ne-eqb, eqb-true}
 use lib.Dec.{eqb}
 use lib.IntN.{ℤ, pos, negsuc}
 use lib.Signed.{leZ}
+use Rattle.declare.specs.declared.Operand.the-variants.{Exact}
 use Rattle.declare.specs.Events.{inRange, least, greatest}
-use Rattle.declare.specs.Refusals.{numberOf}
 use Rattle.declare.specs.Comparisons.{operandOf}
 use Rattle.declare.proofs.Booleans.{and-left, and-right}
 use Rattle.number.specs.Number.{none, dash, naturalOf, inSignedRange, integerOf}
 use Rattle.number.specs.Written.{digitsOf, integerText}
 use Rattle.number.proofs.Written.{written-digits, read-natural, read-integer, integer-not-dash, NaturalRead, natural-read, integer-read}
-use Rattle.line.specs.Types.{Reading, Blank, Value, Refusal, Fault, NaturalAnswer, Natural, NoNatural, IntegerAnswer, Integer, NoInteger, NumberAnswer, Number, NoNumber, ReadingAnswer, Read, NoReading}
-use Rattle.line.specs.Answers.{Answer, Of, No}
-use Rattle.line.specs.Values.{naturalAnswer, numberField, integerAnswer, readingField, readingText, numberRead, readingRead}
-use Rattle.line.proofs.Answers.{no-of, of-of}
+use Rattle.line.specs.Types.{Reading, Blank, Value, Fault, NaturalAnswer, Natural, NoNatural, IntegerAnswer, Integer, NoInteger}
+use Rattle.declare.specs.Answers.{accepted}
+use Rattle.line.specs.Values.{naturalAnswer, numberField, integerAnswer, readingField, readingText}
+use Rattle.declare.proofs.Answers.{no-of, of-of}
 use Rattle.line.proofs.Joined.{lacks, lacks-digits}
-
--- ---- the code's answers
-
-module _ (x : Answer ℕ) (a : NumberAnswer) (h : numberRead a ≡ x) where
-  pub number-found : (v : ℕ) → a ≡ Number v → x ≡ Of v
-  unfolding numberRead
-  number-found v e = sym h ∙ rw e
-
-  pub number-refused : (cause : Refusal) → a ≡ NoNumber cause → x ≡ No (numberOf cause)
-  unfolding numberRead
-  number-refused cause e = sym h ∙ rw e
-
-module _ (x : Answer Reading) (a : ReadingAnswer) (h : readingRead a ≡ x) where
-  pub reading-found : (r : Reading) → a ≡ Read r → x ≡ Of r
-  unfolding readingRead
-  reading-found r e = sym h ∙ rw e
-
-  pub reading-refused : (cause : Refusal) → a ≡ NoReading cause → x ≡ No (numberOf cause)
-  unfolding readingRead
-  reading-refused cause e = sym h ∙ rw e
 
 -- ---- numbers
 
-pub number-written : (low high n : ℕ) → low ≤ n → n ≤ high → numberField low high (digitsOf n) ≡ Of n
+pub number-written : (low high n : ℕ) → low ≤ n → n ≤ high → numberField low high (digitsOf n) ≡ accepted n
 unfolding numberField naturalAnswer
 number-written low high n l h = rw (read-natural low high n l h)
 
-pub number-read : (low high : ℕ) (field : List ℕ) (n : ℕ) → numberField low high field ≡ Of n → NaturalRead low high field n
+pub number-read : (low high : ℕ) (field : List ℕ) (n : ℕ) → numberField low high field ≡ accepted n → NaturalRead low high field n
 unfolding numberField naturalAnswer
 number-read low high field n h = go (naturalOf low high field) refl
   where
@@ -60,11 +41,24 @@ lacks-number b n h = lacks-digits b (digitsOf n) (omega arith) (written-digits n
 
 -- ---- readings
 
-in-range : (z : ℤ) → inRange (operandOf (Value z)) ≡ true → inSignedRange z ≡ Integer z
+pub in-range : (z : ℤ) → inRange (Exact z) ≡ true → inSignedRange z ≡ Integer z
 unfolding inRange least greatest inSignedRange
 in-range z h = rw h
 
-pub reading-written : (r : Reading) → inRange (operandOf r) ≡ true → readingField (readingText r) ≡ Of r
+pub in-signed-range : (z : ℤ) → inSignedRange z ≡ Integer z → inRange (Exact z) ≡ true
+unfolding inRange least greatest inSignedRange
+in-signed-range z h = go (leZ least z && leZ z greatest) refl
+  where
+    no-integer : {f : Fault} → NoInteger f ≡ Integer z → ⊥
+    no-integer e =
+        let z : _≡_ {A = ℕ} 0 1 = cc in
+        omega arith
+
+    go : (t : Bool) → (leZ least z && leZ z greatest) ≡ t → t ≡ true
+    go true p = refl
+    go false p = absurd (no-integer (rw p at h))
+
+pub reading-written : (r : Reading) → inRange (operandOf r) ≡ true → readingField (readingText r) ≡ accepted r
 unfolding readingField readingText dash none integerAnswer
 reading-written Blank h = refl
 reading-written (Value z) h = rw (integer-not-dash z, read-integer z, in-range z h)
@@ -74,19 +68,6 @@ unfolding dash none
 dash-text [] h = absurd (false≢true h)
 dash-text (b ∷ []) h = ap (λ (k : ℕ). k ∷ []) (sym (eqb-true b 45 (and-left (eqb b 45) true h)))
 dash-text (b ∷ x ∷ bs) h = absurd (false≢true (and-right (eqb b 45) false h))
-
-in-signed-range : (z : ℤ) → inSignedRange z ≡ Integer z → inRange (operandOf (Value z)) ≡ true
-unfolding inRange least greatest inSignedRange
-in-signed-range z h = go (leZ (negsuc 2147483647) z && leZ z (pos 2147483647)) refl
-  where
-    no-integer : {f : Fault} → NoInteger f ≡ Integer z → ⊥
-    no-integer e =
-        let z : _≡_ {A = ℕ} 0 1 = cc in
-        omega arith
-
-    go : (t : Bool) → (leZ (negsuc 2147483647) z && leZ z (pos 2147483647)) ≡ t → t ≡ true
-    go true p = refl
-    go false p = absurd (no-integer (rw p at h))
 
 -- a reading that was read: it is written as the field, and is in its range
 pub record ReadingRead (field : List ℕ) (r : Reading) : Type 0 where
@@ -103,7 +84,7 @@ value-read field z p =
     let w = integer-read field z p in
     record { text = w .text; range = in-signed-range z (w .range) }
 
-pub reading-read : (field : List ℕ) (r : Reading) → readingField field ≡ Of r → ReadingRead field r
+pub reading-read : (field : List ℕ) (r : Reading) → readingField field ≡ accepted r → ReadingRead field r
 unfolding readingField integerAnswer
 reading-read field r h = go (dash field) (integerOf field) refl refl
   where

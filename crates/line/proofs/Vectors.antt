@@ -5,11 +5,11 @@ use Prim.Native.Nat.{ℕ}
 use lib.Dec.{eqb}
 use lib.IntN.{pos, negsuc}
 use lib.ListN.{length, getD}
-use Rattle.number.specs.Number.{digit, digits, none, zeroAlone, positive, negative, naturalForm, integerForm, dash, valueFrom, valueOf, integerValue, inRange, naturalOf, inSignedRange, integerOf}
+use Rattle.number.specs.Number.{digit, digits, none, zeroAlone, positive, negative, naturalForm, integerForm, dash, valueFrom, valueOf, integerValue, inNaturalRange, naturalOf, inSignedRange, integerOf}
 use Rattle.number.proofs.Quoted.{bytes, Case, _gives_, Checked}
 use Rattle.line.specs.Types.{Reading, Blank, Value}
 use Rattle.line.specs.Fields.{LF, tab, before, onto, split, eachAfter, joined}
-use Rattle.line.specs.Answers.{Answer, Of, No, _>>_, require}
+use Rattle.declare.specs.Answers.{Answer, accepted, refused, _>>_, require}
 use Rattle.line.specs.Values.{faultNumber, naturalAnswer, numberField, integerAnswer, readingField}
 use Rattle.line.specs.Texts.{Records, All, Stop, lineAfter, continued, linesOf, textOf, writtenLine, writtenText}
 
@@ -33,37 +33,37 @@ lines =
 
 abbrev activities : List (Case (Answer ℕ))
 activities =
-    "1" gives Of 1
-    ∷ "64" gives Of 64
-    ∷ "0" gives No 3
-    ∷ "65" gives No 3
-    ∷ "-5" gives No 2
-    ∷ "-" gives No 2
-    ∷ "" gives No 2
-    ∷ "064" gives No 2
+    "1" gives accepted 1
+    ∷ "64" gives accepted 64
+    ∷ "0" gives refused 3
+    ∷ "65" gives refused 3
+    ∷ "-5" gives refused 2
+    ∷ "-" gives refused 2
+    ∷ "" gives refused 2
+    ∷ "064" gives refused 2
     ∷ []
 
 -- blank is not 0
 abbrev readings : List (Case (Answer Reading))
 readings =
-    "-" gives Of Blank
-    ∷ "0" gives Of (Value (pos 0))
-    ∷ "-7" gives Of (Value (negsuc 6))
-    ∷ "2147483647" gives Of (Value (pos 2147483647))
-    ∷ "-2147483648" gives Of (Value (negsuc 2147483647))
-    ∷ "2147483648" gives No 3
-    ∷ "-2147483649" gives No 3
-    ∷ "-0" gives No 2
-    ∷ "--" gives No 2
-    ∷ "" gives No 2
-    ∷ "7\r" gives No 2
+    "-" gives accepted Blank
+    ∷ "0" gives accepted (Value (pos 0))
+    ∷ "-7" gives accepted (Value (negsuc 6))
+    ∷ "2147483647" gives accepted (Value (pos 2147483647))
+    ∷ "-2147483648" gives accepted (Value (negsuc 2147483647))
+    ∷ "2147483648" gives refused 3
+    ∷ "-2147483649" gives refused 3
+    ∷ "-0" gives refused 2
+    ∷ "--" gives refused 2
+    ∷ "" gives refused 2
+    ∷ "7\r" gives refused 2
     ∷ []
 
 -- records of one field each
 abbrev field : List (List ℕ) → List (List ℕ) → Answer (List ℕ)
 field above fields = do
   require (eqb (length fields) 1) 1
-  Of (getD fields 0 [])
+  accepted (getD fields 0 [])
 
 -- the last line that LF does not end is 12, whatever it holds; lines count from 1
 abbrev texts : List (Case (Records (List ℕ)))
@@ -86,5 +86,5 @@ pub record Vectors : Type 0 where
   pub of-written : writtenText (λ (p : List ℕ). p ∷ p ∷ []) (bytes "a" ∷ bytes "bc" ∷ []) ≡ bytes "a\ta\nbc\tbc\n"
 
 pub vectors : Vectors
-unfolding digit digits none zeroAlone positive negative naturalForm integerForm dash valueFrom valueOf integerValue inRange naturalOf inSignedRange integerOf before onto split eachAfter joined _>>_ require faultNumber naturalAnswer numberField integerAnswer readingField lineAfter continued linesOf textOf writtenLine writtenText
+unfolding digit digits none zeroAlone positive negative naturalForm integerForm dash valueFrom valueOf integerValue inNaturalRange naturalOf inSignedRange integerOf before onto split eachAfter joined _>>_ require faultNumber naturalAnswer numberField integerAnswer readingField lineAfter continued linesOf textOf writtenLine writtenText
 vectors = record { of-parts = refl; of-lines = refl; of-activities = refl; of-readings = refl; of-texts = refl; of-written = refl }

@@ -1,7 +1,8 @@
--- "One record a line, fields parted by a tab, each line ended by LF (byte 10)": parts of a list of bytes, and what they are parts of.
+-- "One record a line, fields parted by a tab, each line ended by LF (byte 10)": parts of a list of
+-- bytes, and what they are parts of.
 use mathlib.Core.Bool.{Bool, cond}
 use mathlib.Core.List.{List, [], _∷_, _++_}
-use Prim.Native.Nat.{ℕ, suc, _+_}
+use Prim.Native.Nat.{ℕ, zero, suc, _+_}
 use lib.Dec.{eqb, ltb}
 use lib.ListN.{drop}
 
@@ -29,6 +30,11 @@ before b (x ∷ xs) = cond (eqb x b) [] (x ∷ before b xs)
 -- what stands after the first b, or nothing
 unfoldable pub following : ℕ → List ℕ → List ℕ
 following b s = drop (indexOf b s + 1) s
+
+-- n fields that a tab ends, one after the other, and one that LF ends
+unfoldable pub fieldsFrom : ℕ → List ℕ → List (List ℕ)
+fieldsFrom zero part = before LF part ∷ []
+fieldsFrom (suc n) part = before tab part ∷ fieldsFrom n (following tab part)
 
 -- how often b stands
 unfoldable pub countOf : ℕ → List ℕ → ℕ

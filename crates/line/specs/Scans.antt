@@ -5,7 +5,7 @@ use Prim.Native.Nat.{ℕ}
 use Rattle.number.specs.Reader.{after, integerIn, dashIn}
 use Rattle.line.specs.Types.{Reading, Blank, Reader, Empty, LineScan, FieldScan}
 use Rattle.line.specs.Fields.{LF, indexOf, before, countOf}
-use Rattle.line.specs.Answers.{Answer, Of}
+use Rattle.declare.specs.Answers.{Answer, accepted}
 use Rattle.line.specs.Values.{integerAnswer}
 
 -- where the first line of the text ends, and how many separators it has
@@ -18,4 +18,4 @@ fieldScan separator part = record { reader = after Empty (before separator part)
 
 -- a reader's answer as a reading
 unfoldable pub readingBy : Reader → Answer Reading
-readingBy reader = cond (dashIn reader) (Of Blank) (integerAnswer (integerIn reader))
+readingBy reader = cond (dashIn reader) (accepted Blank) (integerAnswer (integerIn reader))

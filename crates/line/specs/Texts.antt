@@ -1,5 +1,6 @@
--- The records of a text. "Lines are read downward, the first refusal ends it"; "an empty text has no records".
--- `recordOf` stands for what one line holds: given the records above it and its fields, a record, or the number of its first cause.
+-- The records of a text. "Lines are read downward, the first refusal ends it"; "an empty text has
+-- no records". `recordOf` stands for what one line holds: given the records above it and its
+-- fields, a record, or the number of its first cause.
 use mathlib.Core.Bool.{cond}
 use mathlib.Core.List.{List, [], _∷_, _++_}
 use Prim.Native.Nat.{ℕ, _+_}
@@ -9,7 +10,7 @@ use Rattle.number.specs.Number.{none}
 use Rattle.declare.specs.Refusals.{numberOf}
 use Rattle.line.specs.Types.{Outcome, Accepted, Refused}
 use Rattle.line.specs.Fields.{LF, tab, indexOf, before, split, joined}
-use Rattle.line.specs.Answers.{Answer, Of, No}
+use Rattle.declare.specs.Answers.{Answer, accepted, refused}
 
 -- all records of a text; or the number of the first refusal, and its line
 pub data Records (A : Type 0) : Type 0 where
@@ -21,10 +22,11 @@ unfoldable pub lineAfter : {A : Type 0} → List A → ℕ
 lineAfter above = length above + 1
 
 unfoldable pub continued : {A : Type 0} → List A → Answer A → (A → Records A) → Records A
-continued above (Of r) rest = rest r
-continued above (No n) rest = Stop n (lineAfter above)
+continued above (accepted r) rest = rest r
+continued above (refused n) rest = Stop n (lineAfter above)
 
--- the lists that LF parts: each but the last is a line; the last is empty, or a line that LF does not end, 12
+-- the lists that LF parts: each but the last is a line; the last is empty, or a line that LF does
+-- not end, 12
 unfoldable pub linesOf : {A : Type 0} → (List A → List (List ℕ) → Answer A) → List A → List (List ℕ) → Records A
 linesOf recordOf above [] = All above
 linesOf recordOf above (last ∷ []) = cond (none last) (All above) (Stop 12 (lineAfter above))
@@ -36,7 +38,7 @@ textOf recordOf text = linesOf recordOf [] (split LF text)
 
 -- the first line of a text
 unfoldable pub lineOf : {A : Type 0} → (List (List ℕ) → Answer A) → List ℕ → Answer A
-lineOf holds text = cond (ltb (indexOf LF text) (length text)) (holds (split tab (before LF text))) (No 12)
+lineOf holds text = cond (ltb (indexOf LF text) (length text)) (holds (split tab (before LF text))) (refused 12)
 
 -- ---- written texts; `fieldsOf` stands for the texts of a record's fields
 

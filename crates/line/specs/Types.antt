@@ -17,6 +17,9 @@ pub use Rattle.line.specs.declared.FieldScan.{FieldScan}
 pub use Rattle.line.specs.declared.NumberAnswer.{NumberAnswer}
 pub use Rattle.line.specs.declared.NumberAnswer.the-variants.{Number, NoNumber}
 pub use Rattle.line.specs.declared.NumberField.{NumberField}
+pub use Rattle.line.specs.declared.ByteAnswer.{ByteAnswer}
+pub use Rattle.line.specs.declared.ByteAnswer.the-variants.{Byte, NoByte}
+pub use Rattle.line.specs.declared.ByteField.{ByteField}
 pub use Rattle.line.specs.declared.ReadingAnswer.{ReadingAnswer}
 pub use Rattle.line.specs.declared.ReadingAnswer.the-variants.{Read, NoReading}
 pub use Rattle.line.specs.declared.ReadingField.{ReadingField}

@@ -1,9 +1,12 @@
-// Lines and fields: each function is handed the part of the text that begins at the line or the field, and goes over its bytes once.
+// Lines and fields: each function is handed the part of the text that begins at the line or the
+// field, and goes over its bytes once.
 ghost use mathlib.Core.Path.{_≡_};
+ghost use Prim.Native.Nat.{_+_};
 ghost use lib.ListN.{getD, take, drop};
-ghost use Rattle.line.specs.Fields.{indexOf, before};
+ghost use Rattle.number.specs.Number.{dash};
+ghost use Rattle.line.specs.Fields.{tab, indexOf, before};
 ghost use Rattle.line.specs.Scans.{lineScan, fieldScan, readingBy};
-ghost use Rattle.line.specs.Values.{faultNumber, naturalAnswer, numberField, readingField, numberRead, readingRead};
+ghost use Rattle.line.specs.Values.{faultNumber, naturalAnswer, numberField, readingField, numberRead, byteRead, readingRead};
 ghost use Rattle.declare.specs.Refusals.{numberOf};
 ghost use Rattle.number.specs.Reader.{naturalIn};
 use declare::Reading;
@@ -12,6 +15,11 @@ use number::Fault;
 use number::IntegerAnswer;
 use number::NaturalAnswer;
 use number::Reader;
+
+// The bytes that end a line, and a field before its last.
+pub const LINE_FEED: u8 = b'\n';
+
+pub const TAB: u8 = b'\t';
 
 // Whether a text was accepted; if not, why and at which line.
 pub enum Outcome {
@@ -31,7 +39,7 @@ pub fn scan_line(text: &[u8], separator: u8) -> LineScan
     let mut separators: usize = 0;
     let mut i = 0;
     while i < text.len() {
-        if text[i] == b'\n' {
+        if text[i] == LINE_FEED {
             return LineScan { end: i, separators };
         }
         if text[i] == separator {
@@ -119,6 +127,39 @@ pub fn number_field(part: &[u8], separator: u8, low: u32, high: u32) -> NumberFi
     }
 }
 
+pub enum ByteAnswer {
+    Byte(u8),
+    NoByte(Refusal),
+}
+
+pub struct ByteField {
+    pub answer: ByteAnswer,
+    pub length: usize,
+}
+
+// The first field, which a tab ends, as a number from 1 to `high`.
+pub fn byte_field(part: &[u8], high: u8) -> ByteField
+    ensures { λ r. ⌜ byteRead (r .answer) ≡ numberField 1 high (before tab (now (part .entry))) ⌝ }
+    ensures { λ r. ⌜ r .length ≡ indexOf tab (now (part .entry)) ⌝ }
+{
+    let field = number_field(part, TAB, 1, high as u32);
+    let number = field.answer;
+    let length = field.length;
+    match number {
+        NumberAnswer::Number(value) => {
+            let byte = value as u8;
+            ByteField {
+                answer: ByteAnswer::Byte(byte),
+                length,
+            }
+        }
+        NumberAnswer::NoNumber(cause) => ByteField {
+            answer: ByteAnswer::NoByte(cause),
+            length,
+        },
+    }
+}
+
 pub enum ReadingAnswer {
     Read(Reading),
     NoReading(Refusal),
@@ -174,4 +215,22 @@ pub fn part_before(s: &[u8], i: usize) -> &[u8]
     ensures { λ r. ⌜ now r ≡ take i (now (s .entry)) ⌝ }
 {
     if i <= s.len() { &s[..i] } else { s }
+}
+
+// What follows the separator that stands at `length`; nothing past the end.
+pub fn rest_of(part: &[u8], length: usize) -> &[u8]
+    ensures { λ r. ⌜ now r ≡ drop (length + 1) (now (part .entry)) ⌝ }
+{
+    if length < part.len() {
+        &part[length + 1..]
+    } else {
+        &part[..0]
+    }
+}
+
+// `-` alone.
+pub fn is_dash(field: &[u8]) -> bool
+    ensures { λ r. ⌜ r ≡ dash (now (field .entry)) ⌝ }
+{
+    (field.len() == 1) & (byte_at(field, 0) == b'-')
 }

@@ -4,25 +4,27 @@ use mathlib.Core.List.{List}
 use Prim.Native.Nat.{ℕ}
 use lib.ListN.{length, take}
 use Rattle.declare.specs.declared.Event.{Event}
-use Rattle.declare.specs.declared.Rule.{Rule}
 use Rattle.declare.specs.declared.Refusal.{Refusal}
+use Rattle.declare.specs.declared.Rule.{Rule}
 use Rattle.declare.specs.declared.Table.{Table}
 use Rattle.declare.specs.Rules.{rulesOf}
 use Rattle.declare.specs.Refusals.{numberOf}
 use Rattle.run.specs.declared.Run.{Run}
 use Rattle.run.specs.Start.{started}
+use Rattle.run.specs.Close.{finishedRun}
 use Rattle.line.specs.declared.Outcome.{Outcome as TextOutcome}
 use Rattle.line.specs.declared.Outcome.the-variants.{Accepted, Refused as TextRefused}
 use Rattle.line.specs.Texts.{Records, All, Stop, recordsRead}
 use Rattle.line.proofs.Texts.{stop-all}
 use Rattle.cycle_text.specs.declared.CycleRead.{CycleRead}
 use Rattle.cycle_text.specs.Cycle.{cycleTextOf}
-use Rattle.cycle_text.specs.Reads.{recordsOf, eventsIn, padded}
+use Rattle.declare.specs.Slots.{eventSlots, tableOf}
+use Rattle.cycle_text.specs.Reads.{recordsOf, eventsIn}
 use Rattle.rule_text.specs.declared.RulesRead.{RulesRead}
 use Rattle.rule_text.specs.Rules.{rulesTextOf}
-use Rattle.rule_text.specs.Reads.{rulesIn, tableOf}
-use Rattle.notebook.specs.Types.{Text, Rules, Cycle, Outcome, Closed, Refused, Notebook}
-use Rattle.notebook.specs.Notebook.{Reply, accepted, refused, finishedRun, readWith, finishedOf, notebookOf, outcomeReply, notebookReply, runBeside, notebookRun, Reads}
+use Rattle.rule_text.specs.Reads.{rulesIn}
+use Rattle.notebook.specs.Types.{Text, Rules, Cycle, Closed, Refused, Notebook}
+use Rattle.notebook.specs.Notebook.{readAs, notRead, readWith, finishedOf, notebookOf, outcomeReply, notebookReply, runBeside, notebookRun, Reads}
 
 -- ---- a refusal
 
@@ -31,7 +33,7 @@ pub record IsRefused (t : Table) (text : Text) (cause : Refusal) (line : ℕ) (r
   pub outcome : r .outcome ≡ Refused text cause line
   pub run : r .run ≡ started t
 
-pub refuses : (t : Table) (text : Text) (cause : Refusal) (line : ℕ) (r : Notebook) → IsRefused t text cause line r → Reads (refused text (numberOf cause) line) t r
+pub refuses : (t : Table) (text : Text) (cause : Refusal) (line : ℕ) (r : Notebook) → IsRefused t text cause line r → Reads (notRead text (numberOf cause) line) t r
 unfolding notebookReply outcomeReply runBeside
 refuses t text cause line r h = record { replies = ap (outcomeReply (r .run)) (h .outcome); run = h .run }
 
@@ -43,20 +45,20 @@ cycle-refused t x read cause line r h o q =
     let stops : Stop (numberOf cause) line ≡ x = sym (ap (λ (a : TextOutcome). recordsRead a (take (read .count) (read .events))) o) ∙ h in
     rw (← stops) (refuses t Cycle cause line r q)
 
-closes : (t : Table) (run next : Run) → run ≡ next → Reads (accepted next) t (record { outcome = Closed; run = run })
+closes : (t : Table) (run next : Run) → run ≡ next → Reads (readAs next) t (record { outcome = Closed; run = run })
 unfolding notebookReply outcomeReply runBeside
-closes t run next e = record { replies = ap accepted e; run = e }
+closes t run next e = record { replies = ap readAs e; run = e }
 
-pub cycle-accepted : (t : Table) (x : Records Event) (read : CycleRead) (run : Run) → recordsOf read ≡ x → read .count ≡ length (eventsIn x) → read .events ≡ padded (eventsIn x) → read .outcome ≡ Accepted → run ≡ finishedRun t (read .count) (read .events) → Reads (readWith t x) t (record { outcome = Closed; run = run })
+pub cycle-accepted : (t : Table) (x : Records Event) (read : CycleRead) (run : Run) → recordsOf read ≡ x → read .count ≡ length (eventsIn x) → read .events ≡ eventSlots (eventsIn x) → read .outcome ≡ Accepted → run ≡ finishedRun t (read .count) (read .events) → Reads (readWith t x) t (record { outcome = Closed; run = run })
 unfolding recordsOf recordsRead readWith eventsIn
 cycle-accepted t x read run h n e o q =
     let all : All (take (read .count) (read .events)) ≡ x = sym (ap (λ (a : TextOutcome). recordsRead a (take (read .count) (read .events))) o) ∙ h in
     by-records x all n e
   where
-    by-records : (y : Records Event) → All (take (read .count) (read .events)) ≡ y → read .count ≡ length (eventsIn y) → read .events ≡ padded (eventsIn y) → Reads (readWith t y) t (record { outcome = Closed; run = run })
+    by-records : (y : Records Event) → All (take (read .count) (read .events)) ≡ y → read .count ≡ length (eventsIn y) → read .events ≡ eventSlots (eventsIn y) → Reads (readWith t y) t (record { outcome = Closed; run = run })
     by-records (Stop m l) a c d = absurd (stop-all (sym a))
     by-records (All es) a c d =
-        closes t run (finishedRun t (length es) (padded es)) (q ∙ ap₂ (finishedRun t) c d)
+        closes t run (finishedRun t (length es) (eventSlots es)) (q ∙ ap₂ (finishedRun t) c d)
 
 -- ---- the rules text
 
@@ -65,7 +67,7 @@ unfolding recordsRead notebookOf finishedOf notebookRun
 rules-refused rules cycle read cause line r h t o q =
     let stops : Stop (numberOf cause) line ≡ rulesTextOf rules = sym (ap (λ (a : TextOutcome). recordsRead a (rulesOf (read .table))) o) ∙ h in
     let w = refuses (read .table) Rules cause line r q in
-    let reply : refused Rules (numberOf cause) line ≡ finishedOf (rulesTextOf rules) (cycleTextOf cycle) = rw (← stops) in
+    let reply : notRead Rules (numberOf cause) line ≡ finishedOf (rulesTextOf rules) (cycleTextOf cycle) = rw (← stops) in
     (w .replies ∙ reply, w .run ∙ ap₂ runBeside t reply)
 
 pub rules-accepted : (rules cycle : List ℕ) (read : RulesRead) (r : Notebook) → recordsRead (read .outcome) (rulesOf (read .table)) ≡ rulesTextOf rules → read .table ≡ tableOf (rulesIn (rulesTextOf rules)) → read .outcome ≡ Accepted → Reads (readWith (read .table) (cycleTextOf cycle)) (read .table) r → (notebookReply r ≡ notebookOf rules cycle) × (r .run ≡ notebookRun rules cycle)
@@ -75,3 +77,8 @@ rules-accepted rules cycle read r h t o w =
     let reply : readWith (tableOf (rulesIn (rulesTextOf rules))) (cycleTextOf cycle) ≡ finishedOf (rulesTextOf rules) (cycleTextOf cycle) = rw (← all) in
     let same : readWith (read .table) (cycleTextOf cycle) ≡ finishedOf (rulesTextOf rules) (cycleTextOf cycle) = ap (λ (u : Table). readWith u (cycleTextOf cycle)) t ∙ reply in
     (w .replies ∙ same, w .run ∙ ap₂ runBeside t same)
+
+-- two texts that are accepted
+pub accepted-texts : (rulesText cycleText : List ℕ) (rules : List Rule) (es : List Event) → rulesTextOf rulesText ≡ All rules → cycleTextOf cycleText ≡ All es → notebookOf rulesText cycleText ≡ readAs (finishedRun (tableOf rules) (length es) (eventSlots es))
+unfolding notebookOf finishedOf readWith
+accepted-texts rulesText cycleText rules es p q = rw (p, q)

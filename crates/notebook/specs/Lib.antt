@@ -1,4 +1,3 @@
 pub mod Types
 pub mod Notebook
 pub mod Words
-pub mod Cases

@@ -3,14 +3,10 @@ ghost use mathlib.Core.Path.{_≡_};
 ghost use Rattle.run.specs.Start.{started};
 ghost use Rattle.notebook.specs.Types.{Refused};
 ghost use Rattle.cycle_text.specs.Cycle.{cycleTextOf};
-ghost use Rattle.notebook.specs.Notebook.{finishedRun, readWith, notebookOf, notebookReply, notebookRun, Reads};
+ghost use Rattle.notebook.specs.Notebook.{readWith, notebookOf, notebookReply, notebookRun, Reads};
 use cycle_text::read_cycle;
-use declare::Event;
 use declare::Refusal;
-use declare::Standing;
 use declare::Table;
-use judge::Cell;
-use judge::cells::judge_cells;
 use rule_text::read_rules;
 use run::Run;
 
@@ -28,25 +24,6 @@ pub enum Outcome {
 pub struct Notebook {
     pub outcome: Outcome,
     pub run: Run,
-}
-
-// Each position is judged once, on the whole cycle. The horizon is not looked at: nothing more comes.
-fn finished_run(table: Table, count: usize, events: [Event; 256]) -> Run
-    ensures { λ r. ⌜ r ≡ finishedRun table count events ⌝ }
-{
-    let idle = Cell {
-        standing: Standing::Idle,
-    };
-    let cells = [idle; 4096];
-    let rules = table.rules;
-    let judged = judge_cells(false, rules, table.count, events, count, 0, cells);
-    Run {
-        closed: true,
-        table: table,
-        count: count,
-        events: events,
-        cells: judged,
-    }
 }
 
 fn refused(table: Table, text: Text, cause: Refusal, line: usize) -> Notebook
@@ -72,13 +49,14 @@ fn read_with(table: Table, cycle: &[u8]) -> Notebook
             let events = read.events;
             Notebook {
                 outcome: Outcome::Closed,
-                run: finished_run(table, read.count, events),
+                run: Run::finished(table, read.count, events),
             }
         }
     }
 }
 
-// The closed run of two texts. Refused with the first refusal of the rules text, else of the cycle text.
+// The closed run of two texts. Refused with the first refusal of the rules text, else of the cycle
+// text.
 pub fn read_notebook(rules: &[u8], cycle: &[u8]) -> Notebook
     ensures { λ r. ⌜ notebookReply r ≡ notebookOf (now (rules .entry)) (now (cycle .entry)) ⌝ }
     ensures { λ r. ⌜ r .run ≡ notebookRun (now (rules .entry)) (now (cycle .entry)) ⌝ }

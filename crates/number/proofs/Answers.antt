@@ -1,5 +1,6 @@
--- The reader's answer for the bytes so far is document 01's, for every list of bytes.
--- After further digits the reader keeps a value that no range tells from the true one: both are exact, or both are at the bound or above.
+-- The reader's answer for the bytes so far is document 01's, for every list of bytes. After further
+-- digits the reader keeps a value that no range tells from the true one: both are exact, or both
+-- are at the bound or above.
 use mathlib.Core.Path.{_≡_, refl, sym, _∙_, ap}
 use mathlib.Core.Bool.{Bool, true, false, cond, _&&_}
 use mathlib.Core.Logic.{_⊎_, inl, inr, ⊎-elim}
@@ -10,8 +11,8 @@ use borrow.Author.Tests.{ltb-true, ltb-false, lt-leb, eqb-true}
 use lib.Dec.{leb, ltb, eqb}
 use lib.IntN.{pos, negℤ}
 use Rattle.number.specs.Types.{Empty, Minus, Zero, Digits, Malformed, Form, Range, Natural, NoNatural, NoInteger}
-use Rattle.number.specs.Number.{digit, digits, none, positive, dash, valueFrom, valueOf, integerValue, inRange, naturalOf, inSignedRange, integerOf}
-use Rattle.number.specs.Reader.{bound, extended, firstDigit, pushed, after, naturalIn, integerIn, dashIn, Exact}
+use Rattle.number.specs.Number.{digit, digits, none, positive, dash, valueFrom, valueOf, integerValue, inNaturalRange, naturalOf, inSignedRange, integerOf}
+use Rattle.number.specs.Reader.{bound, extended, firstDigit, pushed, after, naturalIn, integerIn, dashIn, AnswersExactly}
 use Rattle.number.proofs.Digits.{natural-empty, integer-empty, natural-zero, natural-digit, natural-dash, positive-zero, positive-digit, integer-dash, integer-natural}
 use Rattle.number.proofs.Signed.{signed-low, signed-high}
 
@@ -72,8 +73,8 @@ exact-or-above v w h = go (ltb v bound) refl
     go true e = inl (omega (arith, ltb-true v bound e))
     go false e = inr (ltb-false v bound e, omega (arith, ltb-false v bound e))
 
-natural-above : (low high v : ℕ) → high < bound → bound ≤ v → inRange low high v ≡ NoNatural Range
-unfolding inRange
+natural-above : (low high v : ℕ) → high < bound → bound ≤ v → inNaturalRange low high v ≡ NoNatural Range
+unfolding inNaturalRange
 natural-above low high v h l = rw (lt-leb v high (omega arith)) (go (leb low v))
   where
     go : (t : Bool) → cond (t && false) (Natural v) (NoNatural Range) ≡ NoNatural Range
@@ -81,9 +82,9 @@ natural-above low high v h l = rw (lt-leb v high (omega arith)) (go (leb low v))
     go false = refl
 
 module _ (v w : ℕ) (same : min v bound ≡ min w bound) where
-  natural-same : (low high : ℕ) → high < bound → inRange low high v ≡ inRange low high w
+  natural-same : (low high : ℕ) → high < bound → inNaturalRange low high v ≡ inNaturalRange low high w
   natural-same low high h =
-      ⊎-elim (ap (inRange low high)) (λ l. natural-above low high v h (l .0) ∙ sym (natural-above low high w h (l .1))) (exact-or-above v w same)
+      ⊎-elim (ap (inNaturalRange low high)) (λ l. natural-above low high v h (l .0) ∙ sym (natural-above low high w h (l .1))) (exact-or-above v w same)
 
   up-same : inSignedRange (pos v) ≡ inSignedRange (pos w)
   unfolding bound
@@ -107,7 +108,7 @@ module _ (low high : ℕ) where
       go true = refl
       go false = refl
 
-  natural-zeros : (bs : List ℕ) → naturalIn low high (after Zero bs) ≡ cond (none bs) (inRange low high (valueFrom 0 bs)) (NoNatural Form)
+  natural-zeros : (bs : List ℕ) → naturalIn low high (after Zero bs) ≡ cond (none bs) (inNaturalRange low high (valueFrom 0 bs)) (NoNatural Form)
   unfolding none naturalIn valueFrom
   natural-zeros [] = rw (zero-after [])
   natural-zeros (b ∷ bs) = rw (zero-after (b ∷ bs))
@@ -179,7 +180,7 @@ dash-after (b ∷ bs) = go (eqb b 45) (eqb b 48) refl refl
     go false false o p = rw (o, p, first-after false b bs) (not-dash false (positive (b ∷ bs)) (keptFrom (b - 48) bs))
 
 -- the theorem about every list of bytes
-pub answers : (bs : List ℕ) → Exact bs
+pub answers : (bs : List ℕ) → AnswersExactly bs
 answers bs = record {
   natural = λ low high h. natural-after low high h bs;
   integer = integer-after bs;

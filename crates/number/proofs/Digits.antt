@@ -1,4 +1,5 @@
--- Laws of digits and of the number form, by the first byte; what a reader after further digits keeps of their value.
+-- Laws of digits and of the number form, by the first byte; what a reader after further digits
+-- keeps of their value.
 use mathlib.Core.Path.{_≡_, refl}
 use mathlib.Core.Bool.{Bool, true, false, _&&_, _||_, false≢true}
 use mathlib.Core.List.{List, [], _∷_}

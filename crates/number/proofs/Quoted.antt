@@ -1,13 +1,18 @@
 -- Examples that can be read: a quoted text, and what its bytes give.
 use mathlib.Core.Path.{_≡_}
 use mathlib.Core.List as list
-use Prim.Native.Nat.{ℕ}
+use Prim.Native.Nat.{ℕ, zero, suc}
 use Prim.Native.Char.{code}
 use Prim.Native.String.{String, [], _∷_}
 
 abbrev pub bytes : String → list.List ℕ
 bytes [] = list.[]
 bytes (c ∷ s) = list._∷_ (code c) (bytes s)
+
+-- a line n times
+abbrev pub repeated : ℕ → String → list.List ℕ
+repeated zero line = list.[]
+repeated (suc n) line = list._++_ (bytes line) (repeated n line)
 
 pub record Case (A : Type 0) : Type 0 where
   pub text : String

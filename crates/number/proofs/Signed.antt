@@ -1,4 +1,5 @@
--- Laws of signed numbers: the machine's cast of a magnitude below zero, and the ends of the signed range.
+-- Laws of signed numbers: the machine's cast of a magnitude below zero, and the ends of the signed
+-- range.
 use mathlib.Core.Path.{_≡_, refl}
 use Prim.Native.Nat.{ℕ, zero, suc, _≤_, _<_}
 use native.Mathlib.Omega.{arith}

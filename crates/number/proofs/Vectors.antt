@@ -3,7 +3,7 @@ use mathlib.Core.Path.{_≡_, refl}
 use mathlib.Core.List.{List, [], _∷_, map}
 use lib.IntN.{pos, negsuc}
 use Rattle.number.specs.Types.{Form, Range, NaturalAnswer, Natural, NoNatural, IntegerAnswer, Integer, NoInteger}
-use Rattle.number.specs.Number.{digit, digits, none, zeroAlone, positive, negative, naturalForm, integerForm, valueFrom, valueOf, integerValue, inRange, naturalOf, inSignedRange, integerOf}
+use Rattle.number.specs.Number.{digit, digits, none, zeroAlone, positive, negative, naturalForm, integerForm, valueFrom, valueOf, integerValue, inNaturalRange, naturalOf, inSignedRange, integerOf}
 use Rattle.number.specs.Written.{digitsIn, digitsOf, integerText}
 use Rattle.number.proofs.Quoted.{bytes, Case, _gives_, Checked}
 
@@ -78,5 +78,5 @@ pub record Vectors : Type 0 where
   pub written : map integerText (pos 0 ∷ pos 10 ∷ pos 40507 ∷ negsuc 0 ∷ negsuc 1299 ∷ []) ≡ map bytes ("0" ∷ "10" ∷ "40507" ∷ "-1" ∷ "-1300" ∷ [])
 
 pub vectors : Vectors
-unfolding digit digits none zeroAlone positive negative naturalForm integerForm valueFrom valueOf integerValue inRange naturalOf inSignedRange integerOf digitsIn digitsOf integerText
+unfolding digit digits none zeroAlone positive negative naturalForm integerForm valueFrom valueOf integerValue inNaturalRange naturalOf inSignedRange integerOf digitsIn digitsOf integerText
 vectors = record { of-times = refl; of-activities = refl; of-integers = refl; written = refl }

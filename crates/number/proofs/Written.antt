@@ -1,4 +1,5 @@
--- Writing and reading undo each other: what is written reads back as the number, and what was read is written as the same bytes.
+-- Writing and reading undo each other: what is written reads back as the number, and what was read
+-- is written as the same bytes.
 use mathlib.Core.Path.{_≡_, refl, sym, _∙_, ap}
 use mathlib.Core.Bool.{Bool, true, false, _&&_, false≢true}
 use mathlib.Core.List.{List, [], _∷_, _++_, append-nil, append-assoc}
@@ -9,7 +10,7 @@ use lib.Dec.{leb, ltb, eqb}
 use lib.IntN.{ℤ, pos, negsuc, negℤ}
 use lib.Signed.{leZ}
 use Rattle.number.specs.Types.{Fault, Natural, NoNatural, Integer, NoInteger}
-use Rattle.number.specs.Number.{digit, digits, none, positive, naturalForm, integerForm, dash, valueFrom, valueOf, integerValue, inRange, naturalOf, inSignedRange, integerOf}
+use Rattle.number.specs.Number.{digit, digits, none, positive, naturalForm, integerForm, dash, valueFrom, valueOf, integerValue, inNaturalRange, naturalOf, inSignedRange, integerOf}
 use Rattle.number.specs.Written.{digitsIn, digitsOf, integerText}
 use Rattle.number.proofs.Digits.{and-left, and-right, digit-low, digit-high, is-digit, natural-empty, integer-empty, natural-zero, natural-digit, positive-zero, positive-digit, natural-dash, integer-dash, integer-natural}
 
@@ -91,15 +92,15 @@ positive-value (suc k) n h l = go (ltb n 10) refl (λ (g : 10 ≤ n). positive-v
           rw (digits-more n s) (rw (value-snoc 0 (digitsOf (n / 10)) (48 + n % 10), f s .1) (omega arith)),
         )
 
-pub written-positive : (n : ℕ) → 0 < n → positive (digitsOf n) ≡ true
+written-positive : (n : ℕ) → 0 < n → positive (digitsOf n) ≡ true
 written-positive n l = positive-value (suc n) n (omega arith) l .0
 
-pub written-form : (n : ℕ) → naturalForm (digitsOf n) ≡ true
+written-form : (n : ℕ) → naturalForm (digitsOf n) ≡ true
 unfolding none
 written-form zero = rw (digits-one 0 (omega arith), natural-zero 48 [] refl)
 written-form (suc n) = positive-natural (digitsOf (suc n)) (written-positive (suc n) (omega arith))
 
-pub written-value : (n : ℕ) → valueOf (digitsOf n) ≡ n
+written-value : (n : ℕ) → valueOf (digitsOf n) ≡ n
 unfolding digitsOf digitsIn valueOf valueFrom
 written-value zero = refl
 written-value (suc n) = positive-value (suc (suc n)) (suc n) (omega arith) (omega arith) .1
@@ -121,7 +122,7 @@ written-digits n = natural-digits (digitsOf n) (written-form n)
 -- ---- reading what is written
 
 pub read-natural : (low high n : ℕ) → low ≤ n → n ≤ high → naturalOf low high (digitsOf n) ≡ Natural n
-unfolding naturalOf inRange
+unfolding naturalOf inNaturalRange
 read-natural low high n l h = rw (written-form n, written-value n, le-leb low n l, le-leb n high h)
 
 -- a natural number's text does not begin with `-`
@@ -248,7 +249,7 @@ pub record NaturalRead (least most : ℕ) (bs : List ℕ) (v : ℕ) : Type 0 whe
   pub high : v ≤ most
 
 pub natural-read : (least most : ℕ) (bs : List ℕ) (v : ℕ) → naturalOf least most bs ≡ Natural v → NaturalRead least most bs v
-unfolding naturalOf inRange
+unfolding naturalOf inNaturalRange
 natural-read least most bs v h = go (naturalForm bs) (leb least (valueOf bs)) (leb (valueOf bs) most) refl refl refl
   where
     go : (s t u : Bool) → naturalForm bs ≡ s → leb least (valueOf bs) ≡ t → leb (valueOf bs) most ≡ u → NaturalRead least most bs v

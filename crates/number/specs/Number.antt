@@ -1,5 +1,5 @@
--- What document 01 says of numbers: "a number is `0`, or a non-zero digit and digits; readings and k may have one `-` before the non-zero digit".
--- A number's text is a list of bytes.
+-- What document 01 says of numbers: "a number is `0`, or a non-zero digit and digits; readings and
+-- k may have one `-` before the non-zero digit". A number's text is a list of bytes.
 use mathlib.Core.Bool.{Bool, true, false, not, cond, _&&_, _||_}
 use mathlib.Core.List.{List, [], _∷_}
 use Prim.Native.Nat.{ℕ, _+_, _-_, _*_}
@@ -11,8 +11,18 @@ use Rattle.number.specs.Types.{Form, Range, NaturalAnswer, Natural, NoNa
 -- ---- the form
 
 -- `0` to `9` are the bytes 48 to 57
+abbrev pub digit0 : ℕ
+digit0 = 48
+
+abbrev pub digit9 : ℕ
+digit9 = 57
+
+-- `-`
+abbrev pub hyphen : ℕ
+hyphen = 45
+
 unfoldable pub digit : ℕ → Bool
-digit b = leb 48 b && leb b 57
+digit b = leb digit0 b && leb b digit9
 
 unfoldable pub digits : List ℕ → Bool
 digits [] = true
@@ -25,17 +35,17 @@ none (b ∷ bs) = false
 -- `0`
 unfoldable pub zeroAlone : List ℕ → Bool
 zeroAlone [] = false
-zeroAlone (b ∷ bs) = eqb b 48 && none bs
+zeroAlone (b ∷ bs) = eqb b digit0 && none bs
 
 -- "a non-zero digit and digits"
 unfoldable pub positive : List ℕ → Bool
 positive [] = false
-positive (b ∷ bs) = not (eqb b 48) && digit b && digits bs
+positive (b ∷ bs) = not (eqb b digit0) && digit b && digits bs
 
--- one `-`, the byte 45, "before the non-zero digit"
+-- one `-` "before the non-zero digit"
 unfoldable pub negative : List ℕ → Bool
 negative [] = false
-negative (b ∷ bs) = eqb b 45 && positive bs
+negative (b ∷ bs) = eqb b hyphen && positive bs
 
 unfoldable pub naturalForm : List ℕ → Bool
 naturalForm bs = zeroAlone bs || positive bs
@@ -46,30 +56,30 @@ integerForm bs = naturalForm bs || negative bs
 -- `-` alone
 unfoldable pub dash : List ℕ → Bool
 dash [] = false
-dash (b ∷ bs) = eqb b 45 && none bs
+dash (b ∷ bs) = eqb b hyphen && none bs
 
 -- ---- the value, "in base ten"
 
 -- of digits that follow those of the value v
 unfoldable pub valueFrom : ℕ → List ℕ → ℕ
 valueFrom v [] = v
-valueFrom v (b ∷ bs) = valueFrom (v * 10 + (b - 48)) bs
+valueFrom v (b ∷ bs) = valueFrom (v * 10 + (b - digit0)) bs
 
 unfoldable pub valueOf : List ℕ → ℕ
 valueOf bs = valueFrom 0 bs
 
 unfoldable pub integerValue : List ℕ → ℤ
 integerValue [] = pos 0
-integerValue (b ∷ bs) = cond (eqb b 45) (negℤ (pos (valueOf bs))) (pos (valueOf (b ∷ bs)))
+integerValue (b ∷ bs) = cond (eqb b hyphen) (negℤ (pos (valueOf bs))) (pos (valueOf (b ∷ bs)))
 
 -- ---- the answer: the value, not of the number form, or outside its range
 
-unfoldable pub inRange : ℕ → ℕ → ℕ → NaturalAnswer
-inRange low high v = cond (leb low v && leb v high) (Natural v) (NoNatural Range)
+unfoldable pub inNaturalRange : ℕ → ℕ → ℕ → NaturalAnswer
+inNaturalRange low high v = cond (leb low v && leb v high) (Natural v) (NoNatural Range)
 
 -- for an unsigned number from low to high
 unfoldable pub naturalOf : ℕ → ℕ → List ℕ → NaturalAnswer
-naturalOf low high bs = cond (naturalForm bs) (inRange low high (valueOf bs)) (NoNatural Form)
+naturalOf low high bs = cond (naturalForm bs) (inNaturalRange low high (valueOf bs)) (NoNatural Form)
 
 -- −2147483648 to 2147483647
 unfoldable pub inSignedRange : ℤ → IntegerAnswer

@@ -1,4 +1,5 @@
--- The number reader: it is handed a number's bytes one after another, each once, and keeps a running value but no bytes.
+-- The number reader: it is handed a number's bytes one after another, each once, and keeps a
+-- running value but no bytes.
 use mathlib.Core.Path.{_≡_}
 use mathlib.Core.Bool.{Bool, true, false, cond}
 use mathlib.Core.List.{List, [], _∷_}
@@ -6,7 +7,7 @@ use Prim.Native.Nat.{ℕ, _+_, _-_, _*_, _<_}
 use lib.Dec.{ltb, eqb}
 use lib.IntN.{pos, negℤ}
 use Rattle.number.specs.Types.{Reader, Empty, Minus, Zero, Digits, Malformed, Form, NaturalAnswer, NoNatural, IntegerAnswer, NoInteger}
-use Rattle.number.specs.Number.{digit, dash, inRange, naturalOf, inSignedRange, integerOf}
+use Rattle.number.specs.Number.{digit0, hyphen, digit, dash, inNaturalRange, naturalOf, inSignedRange, integerOf}
 
 -- ---- a step
 
@@ -20,14 +21,14 @@ extended v d = cond (ltb v bound) (v * 10 + d) v
 
 -- a byte where the non-zero digit is to stand
 unfoldable pub firstDigit : Bool → ℕ → Reader
-firstDigit n b = cond (eqb b 48) Malformed (cond (digit b) (Digits n (b - 48)) Malformed)
+firstDigit n b = cond (eqb b digit0) Malformed (cond (digit b) (Digits n (b - digit0)) Malformed)
 
 -- the reader after one byte more
 unfoldable pub pushed : Reader → ℕ → Reader
-pushed Empty b = cond (eqb b 45) Minus (cond (eqb b 48) Zero (firstDigit false b))
+pushed Empty b = cond (eqb b hyphen) Minus (cond (eqb b digit0) Zero (firstDigit false b))
 pushed Minus b = firstDigit true b
 pushed Zero b = Malformed
-pushed (Digits n v) b = cond (digit b) (Digits n (extended v (b - 48))) Malformed
+pushed (Digits n v) b = cond (digit b) (Digits n (extended v (b - digit0))) Malformed
 pushed Malformed b = Malformed
 
 -- the reader after further bytes
@@ -40,9 +41,9 @@ after r (b ∷ bs) = after (pushed r b) bs
 unfoldable pub naturalIn : ℕ → ℕ → Reader → NaturalAnswer
 naturalIn low high Empty = NoNatural Form
 naturalIn low high Minus = NoNatural Form
-naturalIn low high Zero = inRange low high 0
+naturalIn low high Zero = inNaturalRange low high 0
 naturalIn low high (Digits true v) = NoNatural Form
-naturalIn low high (Digits false v) = inRange low high v
+naturalIn low high (Digits false v) = inNaturalRange low high v
 naturalIn low high Malformed = NoNatural Form
 
 unfoldable pub integerIn : Reader → IntegerAnswer
@@ -61,9 +62,9 @@ dashIn Zero = false
 dashIn (Digits n v) = false
 dashIn Malformed = false
 
--- "Asked at any point, it gives for the bytes so far exactly document 01's answer, for strings of any length":
--- proved for every list of bytes in proofs/Answers
-pub record Exact (bs : List ℕ) : Type 0 where
+-- "Asked at any point, it gives for the bytes so far exactly document 01's answer, for strings of
+-- any length": proved for every list of bytes in proofs/Answers
+pub record AnswersExactly (bs : List ℕ) : Type 0 where
   pub natural : (low high : ℕ) → high < bound → naturalIn low high (after Empty bs) ≡ naturalOf low high bs
   pub integer : integerIn (after Empty bs) ≡ integerOf bs
   pub dashed : dashIn (after Empty bs) ≡ dash bs

@@ -2,7 +2,7 @@
 ghost use mathlib.Core.Path.{_≡_};
 ghost use Prim.Native.Nat.{_<_};
 ghost use lib.IntN.{pos, negℤ};
-ghost use Rattle.number.specs.Number.{digit, inRange, inSignedRange};
+ghost use Rattle.number.specs.Number.{digit, inNaturalRange, inSignedRange};
 ghost use Rattle.number.specs.Reader.{extended, firstDigit, pushed, naturalIn, integerIn, dashIn};
 
 // What the bytes so far are.
@@ -36,12 +36,15 @@ fn is_digit(byte: u8) -> bool
     b'0' <= byte && byte <= b'9'
 }
 
-// One digit more. A value from 4294967296 on is above every range and stays as it is, so that none overflows.
+// Above every range.
+const BOUND: u64 = 4294967296;
+
+// One digit more. A value from BOUND on stays as it is, so that none overflows.
 fn extend(value: u64, digit: u64) -> u64
     requires { ⌜ digit < 10 ⌝ }
     ensures { λ r. ⌜ r ≡ extended value digit ⌝ }
 {
-    if value < 4294967296 {
+    if value < BOUND {
         value * 10 + digit
     } else {
         value
@@ -76,7 +79,7 @@ fn next_digit(negative: bool, value: u64, byte: u8) -> Reader
 }
 
 fn natural_answer(low: u32, high: u32, value: u64) -> NaturalAnswer
-    ensures { λ r. ⌜ r ≡ inRange low high value ⌝ }
+    ensures { λ r. ⌜ r ≡ inNaturalRange low high value ⌝ }
 {
     if value < low as u64 {
         NaturalAnswer::NoNatural(Fault::Range)

@@ -1,12 +1,13 @@
--- Casts of a signed number to an unsigned one: of a number that is not below zero, and of the magnitude of one that is.
+-- Casts of a signed number to an unsigned one: of a number that is not below zero, and of the
+-- magnitude of one that is.
 use mathlib.Core.Path.{_≡_, sym, subst}
 use mathlib.Core.Bool.{true, false, true≢false}
 use borrow.Author.Tests.{ltb-true}
-use Prim.Native.Nat.{suc, _<_, _≤_}
+use Prim.Native.Nat.{suc}
 use native.Mathlib.Omega.{arith}
 use lib.Dec.{T}
 use lib.IntN.{ℤ, pos, negsuc, natAbs, _-ℤ_, +ℤ-idl}
-use lib.Signed.{mag, ltZ, nonNeg}
+use lib.Signed.{ltZ, nonNeg}
 use mir.Syntax.{w32, w64}
 use mir.Val.{Fits, SFits}
 

@@ -1,8 +1,9 @@
 // Answers of 16 bytes.
 use declare::Refusal;
 use declare::Standing;
+use declare::has_line;
 use declare::number_of;
-use run::Totals;
+use standings::totals::Totals;
 
 pub fn low(x: u16) -> u8 {
     (x % 256) as u8
@@ -15,17 +16,6 @@ pub fn high(x: u16) -> u8 {
 pub fn accepted() {
     let answer = [0u8; 16];
     io::write_all(1, &answer);
-}
-
-// 9, 10, 11 and 14 come without a line.
-pub fn has_line(refusal: Refusal) -> bool {
-    match refusal {
-        Refusal::WrongPhase => false,
-        Refusal::NotFound => false,
-        Refusal::InvalidRecord => false,
-        Refusal::TallyOverflow => false,
-        _ => true,
-    }
 }
 
 fn kept(keep: bool, b: u8) -> u8 {

@@ -2,39 +2,39 @@
 use crate::answer;
 use crate::command;
 use declare::Table;
-use run::Answer;
+use run::Outcome;
 use run::Run;
 use run::StandingAnswer;
 use run::Step;
 use run::TotalsAnswer;
 
-fn said(a: Answer) {
-    match a {
-        Answer::Done => answer::accepted(),
-        Answer::Refused(refusal) => answer::refused(refusal, 0, 0),
+fn said(outcome: Outcome) {
+    match outcome {
+        Outcome::Done => answer::accepted(),
+        Outcome::Refused(refusal) => answer::refused(refusal, 0, 0),
     }
 }
 
-fn is_done(a: Answer) -> bool {
-    match a {
-        Answer::Done => true,
-        Answer::Refused(_) => false,
+fn is_done(outcome: Outcome) -> bool {
+    match outcome {
+        Outcome::Done => true,
+        Outcome::Refused(_) => false,
     }
 }
 
 pub fn start(run: Run, table: Table) -> Run {
     let step = Run::start(table);
-    let a = step.answer;
-    said(a);
-    if is_done(a) {
+    let outcome = step.outcome;
+    said(outcome);
+    if is_done(outcome) {
         return step.run;
     }
     run
 }
 
 fn stepped(step: Step) -> Run {
-    let a = step.answer;
-    said(a);
+    let outcome = step.outcome;
+    said(outcome);
     step.run
 }
 

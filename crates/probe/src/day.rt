@@ -5,8 +5,8 @@ use crate::bytes::byte;
 use crate::command;
 use declare::Refusal;
 use run::Run;
-use tally::Answer;
 use tally::Counted;
+use tally::Outcome;
 use tally::Sum;
 use tally::Tally;
 use tally::absorb;
@@ -30,34 +30,34 @@ fn set(command: [u8; 32]) -> Tally {
     }
 }
 
-fn said(a: Answer) {
-    match a {
-        Answer::Absorbed => answer::accepted(),
-        Answer::InvalidRecord => answer::refused(Refusal::InvalidRecord, 0, 0),
-        Answer::NotFound => answer::refused(Refusal::NotFound, 0, 0),
-        Answer::WrongPhase => answer::refused(Refusal::WrongPhase, 0, 0),
-        Answer::Overflow => answer::refused(Refusal::TallyOverflow, 0, 0),
+fn said(outcome: Outcome) {
+    match outcome {
+        Outcome::Absorbed => answer::accepted(),
+        Outcome::InvalidRecord => answer::refused(Refusal::InvalidRecord, 0, 0),
+        Outcome::NotFound => answer::refused(Refusal::NotFound, 0, 0),
+        Outcome::WrongPhase => answer::refused(Refusal::WrongPhase, 0, 0),
+        Outcome::Overflow => answer::refused(Refusal::TallyOverflow, 0, 0),
     }
 }
 
 // `absorb` on a local that is lent for the call. Lending a struct is not covered, so this function
 // has a proof by hand, and all others have the tally by value.
 fn absorbed_in_place(tally: Tally, counted: Counted) -> Sum
-    ensures { λ r. ⌜ Absorbs tally counted (r .tally) (r .answer) ⌝ }
+    ensures { λ r. ⌜ Absorbs tally counted (r .tally) (r .outcome) ⌝ }
 {
     let mut after = tally;
-    let answer = absorb(&mut after, counted);
+    let outcome = absorb(&mut after, counted);
     Sum {
         tally: after,
-        answer: answer,
+        outcome: outcome,
     }
 }
 
 fn absorbing(tally: Tally, run: Run, command: [u8; 32]) -> Tally {
     let counted = counted_of(run, command::number(command));
     let sum = absorbed_in_place(tally, counted);
-    let answer = sum.answer;
-    said(answer);
+    let outcome = sum.outcome;
+    said(outcome);
     sum.tally
 }
 

@@ -1,6 +1,7 @@
 // Standings, and the whole run.
-ghost use mathlib.Core.Path.{_≡_};
-ghost use Prim.Native.Nat.{_+_, _*_, _≤_, _<_};
+ghost use Prim.Native.Nat.{_+_, _≤_, _<_};
+ghost use Rattle.declare.specs.Limits.{mostRules, mostEvents};
+ghost use Rattle.standings.specs.Places.{places};
 use crate::answer::high;
 use crate::answer::kind_of;
 use crate::answer::low;
@@ -9,14 +10,17 @@ use crate::bytes::byte;
 use crate::bytes::unsigned;
 use declare::Comparison;
 use declare::Condition;
+use declare::EVENTS;
 use declare::End;
 use declare::Event;
 use declare::Operator;
+use declare::RULES;
 use declare::Reading;
 use declare::Reference;
 use declare::Rule;
-use judge::Cell;
 use run::Run;
+use standings::Cell;
+use standings::PLACES;
 
 pub fn least(x: usize, y: usize) -> usize
     ensures { λ r. ⌜ (r ≤ x) × (r ≤ y) ⌝ }
@@ -25,8 +29,8 @@ pub fn least(x: usize, y: usize) -> usize
 }
 
 // The first n cells of a row.
-fn row_bytes(cells: [Cell; 4096], base: usize, n: usize) -> [u8; 1024]
-    requires { ⌜ (n ≤ 256) × (base + n ≤ 4096) ⌝ }
+fn row_bytes(cells: [Cell; PLACES], base: usize, n: usize) -> [u8; 1024]
+    requires { ⌜ (n ≤ mostEvents) × (base + n ≤ places) ⌝ }
 {
     let mut out = [0u8; 1024];
     for p in 0..n {
@@ -41,16 +45,16 @@ fn row_bytes(cells: [Cell; 4096], base: usize, n: usize) -> [u8; 1024]
     out
 }
 
-fn write_row(cells: [Cell; 4096], row: usize, n: usize)
-    requires { ⌜ (n ≤ 256) × (row < 16) ⌝ }
+fn write_row(cells: [Cell; PLACES], row: usize, n: usize)
+    requires { ⌜ (n ≤ mostEvents) × (row < mostRules) ⌝ }
 {
-    let bytes = row_bytes(cells, row * 256, n);
+    let bytes = row_bytes(cells, row * EVENTS, n);
     let end = n * 4;
     io::write_all(1, &bytes[..end]);
 }
 
-fn write_rows(cells: [Cell; 4096], rows: usize, n: usize)
-    requires { ⌜ (rows ≤ 16) × (n ≤ 256) ⌝ }
+fn write_rows(cells: [Cell; PLACES], rows: usize, n: usize)
+    requires { ⌜ (rows ≤ mostRules) × (n ≤ mostEvents) ⌝ }
 {
     for row in 0..rows {
         write_row(cells, row, n);
@@ -59,8 +63,8 @@ fn write_rows(cells: [Cell; 4096], rows: usize, n: usize)
 
 pub fn standings(run: Run) -> Run {
     let cells = run.cells;
-    let rows = least(run.table.count, 16);
-    let n = least(run.count, 256);
+    let rows = least(run.table.count, RULES);
+    let n = least(run.count, EVENTS);
     write_rows(cells, rows, n);
     run
 }
@@ -160,8 +164,8 @@ fn write_rule(rule: Rule) {
     write_condition(rule.correlation);
 }
 
-fn write_rules(rules: [Rule; 16]) {
-    for k in 0..16 {
+fn write_rules(rules: [Rule; RULES]) {
+    for k in 0..RULES {
         let rule = rules[k];
         write_rule(rule);
     }
@@ -219,8 +223,8 @@ fn write_event(e: Event) {
     write_reading(fourth);
 }
 
-fn write_events(events: [Event; 256]) {
-    for p in 0..256 {
+fn write_events(events: [Event; EVENTS]) {
+    for p in 0..EVENTS {
         let e = events[p];
         write_event(e);
     }
@@ -257,6 +261,6 @@ pub fn whole(run: Run) -> Run {
     let events = run.events;
     write_events(events);
     let cells = run.cells;
-    write_rows(cells, 16, 256);
+    write_rows(cells, RULES, EVENTS);
     run
 }

@@ -1,5 +1,7 @@
-// A program for tests: commands on standard input, answers on standard output. tests/PROBE.md has the format.
+// A program for tests: commands on standard input, answers on standard output. tests/PROBE.md has
+// the format.
 use declare::Table;
+use declare::slots::empty_table;
 use run::Run;
 use tally::Tally;
 
@@ -93,7 +95,7 @@ fn obey(state: State, command: [u8; 32]) -> State {
 
 fn main() {
     let mut state = State {
-        table: table::empty(),
+        table: empty_table(),
         run: record::empty(),
         tally: day::empty(),
     };

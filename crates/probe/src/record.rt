@@ -1,13 +1,15 @@
 // Single fields of the run.
 use crate::command;
-use crate::table;
+use declare::EVENTS;
 use declare::Standing;
 use declare::Table;
-use judge::Cell;
+use declare::slots::empty_table;
 use run::Run;
+use standings::Cell;
+use standings::PLACES;
 
 pub fn empty() -> Run {
-    let step = Run::start(table::empty());
+    let step = Run::start(empty_table());
     step.run
 }
 
@@ -32,7 +34,7 @@ fn standing(kind: u8, target: u16) -> Standing {
 
 fn with_cell(run: Run, command: [u8; 32]) -> Run {
     let at = command::index(command::low_half(command));
-    if 4096 <= at {
+    if PLACES <= at {
         return run;
     }
     let cell = Cell {
@@ -45,7 +47,7 @@ fn with_cell(run: Run, command: [u8; 32]) -> Run {
 
 fn with_event(run: Run, command: [u8; 32]) -> Run {
     let at = command::index(command::low_half(command));
-    if 256 <= at {
+    if EVENTS <= at {
         return run;
     }
     let event = command::event(command);

@@ -4,19 +4,12 @@ use declare::Comparison;
 use declare::Condition;
 use declare::End;
 use declare::Operator;
+use declare::RULES;
 use declare::Reference;
 use declare::Rule;
 use declare::Table;
 use declare::Window;
-use declare::slots::no_rule;
-
-pub fn empty() -> Table {
-    let rule = no_rule();
-    Table {
-        count: 0,
-        rules: [rule; 16],
-    }
-}
+use declare::slots::empty_table;
 
 fn operator(b: u8) -> Operator {
     match b {
@@ -113,12 +106,12 @@ fn slot(b: u8) -> usize {
 
 pub fn changed(table: Table, command: [u8; 32]) -> Table {
     if command[0] == 116 {
-        let mut fresh = empty();
+        let mut fresh = empty_table();
         fresh.count = command::number(command);
         return fresh;
     }
     let at = slot(command[1]);
-    if 16 <= at {
+    if RULES <= at {
         return table;
     }
     let mut next = table;

@@ -42,16 +42,11 @@ pub fn rules(table: Table, command: [u8; 32]) -> Table {
 }
 
 fn with_events(run: Run, read: CycleRead) -> Run {
-    let table = run.table;
     let events = read.events;
-    let cells = run.cells;
-    Run {
-        closed: run.closed,
-        table: table,
-        count: read.count,
-        events: events,
-        cells: cells,
-    }
+    let mut next = run;
+    next.count = read.count;
+    next.events = events;
+    next
 }
 
 fn read_cycle(bytes: &mut [u8]) -> CycleRead {

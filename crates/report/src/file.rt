@@ -1,13 +1,15 @@
 // Reading a file of at most 32768 bytes.
 ghost use Rattle.io.specs.Counts.{Counts};
 
-// The first `length` bytes of the buffer are the file's, and `whole` says whether that is all of the file.
+// The first `length` bytes of the buffer are the file's, and `whole` says whether that is all of
+// the file.
 pub struct FileRead {
     pub whole: bool,
     pub length: usize,
 }
 
-// Whether the file has ended. It has not if there is more to read, nor if a read fails, as it does in a folder.
+// Whether the file has ended. It has not if there is more to read, nor if a read fails, as it does
+// in a folder.
 fn at_end(fd: i32) -> bool {
     let mut one = [0u8; 1];
     libc::read(fd, &mut one) == 0

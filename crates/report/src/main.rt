@@ -1,4 +1,5 @@
-// The verdicts on a finished cycle: reads rules.tsv and cycle.tsv in the current folder, and prints the verdicts or a refusal.
+// The verdicts on a finished cycle: reads rules.tsv and cycle.tsv in the current folder, and prints
+// the verdicts or a refusal.
 mod file; // file.rt: reading a file
 mod print; // print.rt: bytes, numbers and lines
 mod verdicts; // verdicts.rt: the verdicts of a closed run

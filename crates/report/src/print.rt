@@ -1,18 +1,19 @@
 // Bytes, numbers and lines in a buffer, and the buffer on standard output.
 //
-// A buffer has room for all that is printed of one rule: 256 lines of at most 65 bytes and one of at most 90, a number being given 20
-// bytes, as many as a u64 can take.
+// A buffer has room for all that is printed of one rule: 256 lines of at most 65 bytes and one of
+// at most 90, a number being given 20 bytes, as many as a u64 can take.
 ghost use mathlib.Core.Path.{_≡_};
 ghost use Prim.Native.Nat.{_+_, _≤_, _<_};
 ghost use lib.ListN.{length};
 use declare::Refusal;
 use declare::number_of;
 use notebook::Text;
-use run::Totals;
+use standings::totals::Totals;
 
 pub type Buffer = [u8; 20480];
 
-// The functions whose names begin with `put_` put something into the buffer from `at` on, and answer the place after it.
+// The functions whose names begin with `put_` put something into the buffer from `at` on, and
+// answer the place after it.
 
 fn put_byte(buffer: &mut Buffer, at: usize, byte: u8) -> usize
     requires { ⌜ at < 20480 ⌝ }
@@ -90,7 +91,8 @@ fn put_refused(buffer: &mut Buffer, text: Text) -> usize
     }
 }
 
-// Writes what stands before `end`, also where one write takes only a part; false if it cannot be written.
+// Writes what stands before `end`, also where one write takes only a part; false if it cannot be
+// written.
 pub fn write_buffer(buffer: &Buffer, end: usize) -> bool
     requires { ⌜ end ≤ 20480 ⌝ }
 {

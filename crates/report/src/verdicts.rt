@@ -1,9 +1,12 @@
 // The verdicts of a closed run, rule by rule.
 ghost use Prim.Native.Nat.{_+_, _≤_};
+ghost use Rattle.declare.specs.Limits.{mostEvents};
 use crate::print::Buffer;
 use crate::print::put_total;
 use crate::print::put_verdict;
 use crate::print::write_buffer;
+use declare::EVENTS;
+use declare::RULES;
 use declare::Standing;
 use run::Run;
 use run::StandingAnswer;
@@ -41,7 +44,7 @@ fn put_position(buffer: &mut Buffer, at: usize, run: Run, rule: usize, position:
 
 // The lines of the first `count` positions.
 fn put_positions(buffer: &mut Buffer, run: Run, rule: usize, count: usize) -> usize
-    requires { ⌜ count ≤ 256 ⌝ }
+    requires { ⌜ count ≤ mostEvents ⌝ }
     ensures { λ r. ⌜ r ≤ 16640 ⌝ }
 {
     let mut at = 0;
@@ -63,7 +66,7 @@ fn put_totals(buffer: &mut Buffer, at: usize, run: Run, rule: usize) -> usize
 
 // All that is printed of one rule; false if it cannot be written.
 fn print_rule(run: Run, rule: usize, count: usize) -> bool
-    requires { ⌜ count ≤ 256 ⌝ }
+    requires { ⌜ count ≤ mostEvents ⌝ }
 {
     let mut buffer = [0u8; 20480];
     let after_positions = put_positions(&mut buffer, run, rule, count);
@@ -77,11 +80,11 @@ fn least(x: usize, y: usize) -> usize
     if x <= y { x } else { y }
 }
 
-// A run has at most 16 rules and 256 events. If the lines of a rule cannot be written, those of the next are not, so that what is
-// printed has no gap.
+// A run has at most 16 rules and 256 events. If the lines of a rule cannot be written, those of the
+// next are not, so that what is printed has no gap.
 pub fn print_verdicts(run: Run) {
-    let rules = least(run.table.count, 16);
-    let count = least(run.count, 256);
+    let rules = least(run.table.count, RULES);
+    let count = least(run.count, EVENTS);
     for k in 0..rules {
         if !print_rule(run, k + 1, count) {
             return;

@@ -1,5 +1,6 @@
--- Comparisons at the head of a part of a condition. The code looks at the part's own bytes, the definitions at those before the comma: as no byte of the
--- form is a comma, both come to the same, byte by byte.
+-- Comparisons at the head of a part of a condition. The code looks at the part's own bytes, the
+-- definitions at those before the comma: as no byte of the form is a comma, both come to the same,
+-- byte by byte.
 use mathlib.Core.Path.{_≡_, refl, sym, _∙_, ap}
 use mathlib.Core.Bool.{Bool, true, false}
 use mathlib.Core.List.{List, [], _∷_}
@@ -12,9 +13,9 @@ use lib.ListN.{length, getD, drop}
 use lib.Seq.{getD-drop, drop-drop}
 use Rattle.declare.proofs.Booleans.{and-left}
 use Rattle.line.specs.Fields.{indexOf, before}
-use Rattle.line.specs.Answers.{Answer, Of, No, _>>=_, _>>_, require}
+use Rattle.declare.specs.Answers.{Answer, accepted, refused, _>>=_, _>>_, require}
 use Rattle.line.proofs.Fields.{index-le}
-use Rattle.line.proofs.Answers.{no-of, of-of}
+use Rattle.declare.proofs.Answers.{no-of, of-of, through}
 use Rattle.rule_text.specs.Types.{Operator, Reference, Constant, Activation, Comparison}
 use Rattle.rule_text.specs.Conditions.{comma}
 use Rattle.rule_text.specs.Comparisons.{readingDigit, digitOf, operatorOf, kField, constantField, activationField, referenceField, comparisonField}
@@ -24,34 +25,31 @@ use Rattle.rule_text.specs.Reads.{Measured, upToComma}
 
 -- what was read, changed by f, and its length by g
 unfoldable pub changed : {A B : Type 0} → (A → B) → (ℕ → ℕ) → Answer (Measured A) → Answer (Measured B)
-changed f g (Of w) = Of (record { value = f (w .value); length = g (w .length) })
-changed f g (No m) = No m
+changed f g (accepted w) = accepted (record { value = f (w .value); length = g (w .length) })
+changed f g (refused m) = refused m
 
 -- what was read, and its length
-module _ {A : Type 0} (holds : List ℕ → Answer A) (s : List ℕ) (w : Measured A) (h : upToComma holds s ≡ Of w) where
-  pub measured : (holds (before comma s) ≡ Of (w .value)) × (indexOf comma s ≡ w .length)
-  unfolding upToComma _>>=_
-  measured = go (holds (before comma s)) refl
-    where
-      go : (x : Answer A) → holds (before comma s) ≡ x → (holds (before comma s) ≡ Of (w .value)) × (indexOf comma s ≡ w .length)
-      go (No m) p = absurd (no-of (rw p at h))
-      go (Of b) p =
-          let e : record { value = b; length = indexOf comma s } ≡ w = of-of (rw p at h) in
-          (p ∙ ap (λ (v : Measured A). Of (v .value)) e, ap (λ (v : Measured A). v .length) e)
+module _ {A : Type 0} (holds : List ℕ → Answer A) (s : List ℕ) (w : Measured A) (h : upToComma holds s ≡ accepted w) where
+  pub measured : (holds (before comma s) ≡ accepted (w .value)) × (indexOf comma s ≡ w .length)
+  unfolding upToComma
+  measured =
+      let t = through (holds (before comma s)) _ w h in
+      let e : record { value = t .value; length = indexOf comma s } ≡ w = of-of (t .rest) in
+      (t .first ∙ ap (λ (v : Measured A). accepted (v .value)) e, ap (λ (v : Measured A). v .length) e)
 
   pub length-le : w .length ≤ length s
   length-le = rw (← measured .1) (index-le comma s)
 
-pub refused : {A : Type 0} (holds : List ℕ → Answer A) (s : List ℕ) (n : ℕ) → upToComma holds s ≡ No n → holds (before comma s) ≡ No n
+pub comma-refused : {A : Type 0} (holds : List ℕ → Answer A) (s : List ℕ) (n : ℕ) → upToComma holds s ≡ refused n → holds (before comma s) ≡ refused n
 unfolding upToComma _>>=_
-refused {A} holds s n h = go (holds (before comma s)) refl
+comma-refused {A} holds s n h = go (holds (before comma s)) refl
   where
-    go : (x : Answer A) → holds (before comma s) ≡ x → holds (before comma s) ≡ No n
-    go (No m) p =
-        let e : No m ≡ No n = rw p at h in
+    go : (x : Answer A) → holds (before comma s) ≡ x → holds (before comma s) ≡ refused n
+    go (refused m) p =
+        let e : refused m ≡ refused n = rw p at h in
         let q : m ≡ n = cc in
-        p ∙ ap No q
-    go (Of a) p = absurd (no-of (sym (rw p at h)))
+        p ∙ ap refused q
+    go (accepted a) p = absurd (no-of (sym (rw p at h)))
 
 -- the first byte: past the end, and at the comma, it is as if 0 stood there
 first-byte : {A : Type 0} (f : ℕ → A) (s : List ℕ) → f 0 ≡ f comma → f (getD (before comma s) 0 0) ≡ f (getD s 0 0)
@@ -68,7 +66,7 @@ record Byte (s : List ℕ) : Type 0 where
   fields : before comma s ≡ getD s 0 0 ∷ before comma (drop 1 s)
   index : indexOf comma s ≡ suc (indexOf comma (drop 1 s))
 
-byte : {B : Type 0} (f : ℕ → Answer B) → f 0 ≡ No 4 → f comma ≡ No 4 → (s : List ℕ) (b : B) → f (getD s 0 0) ≡ Of b → Byte s
+byte : {B : Type 0} (f : ℕ → Answer B) → f 0 ≡ refused 4 → f comma ≡ refused 4 → (s : List ℕ) (b : B) → f (getD s 0 0) ≡ accepted b → Byte s
 unfolding before indexOf
 byte f z e [] b h = absurd (no-of (sym z ∙ h))
 byte f z e (x ∷ s) b h = go (eqb x comma) refl
@@ -79,11 +77,11 @@ byte f z e (x ∷ s) b h = go (eqb x comma) refl
 
 -- ---- single bytes
 
-pub digit-is : (b : ℕ) → readingDigit b ≡ true → digitOf b ≡ Of (b - 48)
+pub digit-is : (b : ℕ) → readingDigit b ≡ true → digitOf b ≡ accepted (b - 48)
 unfolding digitOf require _>>_
 digit-is b h = rw h
 
-pub digit-none : (b : ℕ) → readingDigit b ≡ false → digitOf b ≡ No 4
+pub digit-none : (b : ℕ) → readingDigit b ≡ false → digitOf b ≡ refused 4
 unfolding digitOf require _>>_
 digit-none b h = rw h
 
@@ -91,19 +89,19 @@ pub digit-low : (b : ℕ) → readingDigit b ≡ true → 48 ≤ b
 unfolding readingDigit
 digit-low b h = omega (arith, leb-true 49 b (and-left (leb 49 b) (leb b 52) h))
 
-digit-zero : digitOf 0 ≡ No 4
+digit-zero : digitOf 0 ≡ refused 4
 unfolding readingDigit
 digit-zero = digit-none 0 refl
 
-digit-comma : digitOf comma ≡ No 4
+digit-comma : digitOf comma ≡ refused 4
 unfolding readingDigit
 digit-comma = digit-none comma refl
 
-operator-zero : operatorOf 0 ≡ No 4
+operator-zero : operatorOf 0 ≡ refused 4
 unfolding operatorOf
 operator-zero = refl
 
-operator-comma : operatorOf comma ≡ No 4
+operator-comma : operatorOf comma ≡ refused 4
 unfolding operatorOf
 operator-comma = refl
 
@@ -122,8 +120,8 @@ unfolding constantField upToComma _>>=_ changed
 constant-part s = go (kField (before comma s)) refl
   where
     go : (x : Answer ℤ) → kField (before comma s) ≡ x → upToComma constantField s ≡ changed Constant (λ n. n) (upToComma kField s)
-    go (No n) p = rw p
-    go (Of k) p = rw p
+    go (refused n) p = rw p
+    go (accepted k) p = rw p
 
 module _ (s : List ℕ) where
   second : getD (drop 1 s) 0 0 ≡ getD s 1 0
@@ -132,12 +130,12 @@ module _ (s : List ℕ) where
   third : drop 1 (drop 1 s) ≡ drop 2 s
   third = drop-drop 1 1 s
 
-  pub activation-no-digit : digitOf (getD s 0 0) ≡ No 4 → upToComma activationField s ≡ No 4
+  pub activation-no-digit : digitOf (getD s 0 0) ≡ refused 4 → upToComma activationField s ≡ refused 4
   unfolding activationField upToComma _>>=_
   activation-no-digit h = rw (first-byte digitOf s (digit-zero ∙ sym digit-comma), h)
 
-  module _ (g : ℕ) (h : digitOf (getD s 0 0) ≡ Of g) where
-    pub activation-no-colon : eqb (getD s 1 0) 58 ≡ false → upToComma activationField s ≡ No 4
+  module _ (g : ℕ) (h : digitOf (getD s 0 0) ≡ accepted g) where
+    pub activation-no-colon : eqb (getD s 1 0) 58 ≡ false → upToComma activationField s ≡ refused 4
     unfolding activationField upToComma _>>=_ _>>_ require
     activation-no-colon k =
         rw (byte digitOf digit-zero digit-comma s g h .fields, h, first-byte (λ b. eqb b 58) (drop 1 s) refl, second, k)
@@ -145,48 +143,48 @@ module _ (s : List ℕ) where
     pub activation-part : eqb (getD s 1 0) 58 ≡ true → upToComma activationField s ≡ changed (Activation g) (λ n. n + 2) (upToComma kField (drop 2 s))
     unfolding activationField upToComma _>>=_ _>>_ require changed colonOf
     activation-part k =
-        let colon : colonOf (getD (drop 1 s) 0 0) ≡ Of tt = rw (second, k) in
+        let colon : colonOf (getD (drop 1 s) 0 0) ≡ accepted tt = rw (second, k) in
         let v = byte digitOf digit-zero digit-comma s g h in
         let w = byte colonOf refl refl (drop 1 s) tt colon in
         rw (v .fields, v .index, w .fields, w .index, h, second, k, third) (go (kField (before comma (drop 2 s))))
       where
-        go : (x : Answer ℤ) → ((x >>= λ k. Of (Activation g k)) >>= λ a. Of (record { value = a; length = suc (suc (indexOf comma (drop 2 s))) })) ≡ changed (Activation g) (λ n. n + 2) (x >>= λ a. Of (record { value = a; length = indexOf comma (drop 2 s) }))
-        go (No n) = refl
-        go (Of k) = ap (λ (n : ℕ). Of (record { value = Activation g k; length = n })) (omega arith)
+        go : (x : Answer ℤ) → ((x >>= λ k. accepted (Activation g k)) >>= λ a. accepted (record { value = a; length = suc (suc (indexOf comma (drop 2 s))) })) ≡ changed (Activation g) (λ n. n + 2) (x >>= λ a. accepted (record { value = a; length = indexOf comma (drop 2 s) }))
+        go (refused n) = refl
+        go (accepted k) = ap (λ (n : ℕ). accepted (record { value = Activation g k; length = n })) (omega arith)
 
   pub reference-constant : (correlation : Bool) → eqb (getD s 0 0) 64 ≡ false → upToComma (referenceField correlation) s ≡ upToComma constantField s
   unfolding referenceField upToComma
   reference-constant correlation h = rw (first-byte (λ b. eqb b 64) s refl, h)
 
-  pub reference-refused : (correlation : Bool) → correlation ≡ false → eqb (getD s 0 0) 64 ≡ true → upToComma (referenceField correlation) s ≡ No 4
+  pub reference-refused : (correlation : Bool) → correlation ≡ false → eqb (getD s 0 0) 64 ≡ true → upToComma (referenceField correlation) s ≡ refused 4
   unfolding referenceField upToComma _>>=_ _>>_ require
   reference-refused correlation e h = rw (e, first-byte (λ b. eqb b 64) s refl, h)
 
   pub reference-part : (correlation : Bool) → correlation ≡ true → eqb (getD s 0 0) 64 ≡ true → upToComma (referenceField correlation) s ≡ changed (λ x. x) (λ n. n + 1) (upToComma activationField (drop 1 s))
   unfolding referenceField upToComma _>>=_ _>>_ require changed atOf
   reference-part correlation e h =
-      let at : atOf (getD s 0 0) ≡ Of tt = rw h in
+      let at : atOf (getD s 0 0) ≡ accepted tt = rw h in
       let v = byte atOf refl refl s tt at in
       rw (e, v .fields, v .index, h) (go (activationField (before comma (drop 1 s))))
     where
-      go : (x : Answer Reference) → (x >>= λ a. Of (record { value = a; length = suc (indexOf comma (drop 1 s)) })) ≡ changed (λ x. x) (λ n. n + 1) (x >>= λ a. Of (record { value = a; length = indexOf comma (drop 1 s) }))
-      go (No n) = refl
-      go (Of x) = ap (λ (n : ℕ). Of (record { value = x; length = n })) (omega arith)
+      go : (x : Answer Reference) → (x >>= λ a. accepted (record { value = a; length = suc (indexOf comma (drop 1 s)) })) ≡ changed (λ x. x) (λ n. n + 1) (x >>= λ a. accepted (record { value = a; length = indexOf comma (drop 1 s) }))
+      go (refused n) = refl
+      go (accepted x) = ap (λ (n : ℕ). accepted (record { value = x; length = n })) (omega arith)
 
 -- ---- comparisons
 
 module _ (correlation : Bool) (s : List ℕ) where
-  pub comparison-no-digit : digitOf (getD s 0 0) ≡ No 4 → upToComma (comparisonField correlation) s ≡ No 4
+  pub comparison-no-digit : digitOf (getD s 0 0) ≡ refused 4 → upToComma (comparisonField correlation) s ≡ refused 4
   unfolding comparisonField upToComma _>>=_
   comparison-no-digit h = rw (first-byte digitOf s (digit-zero ∙ sym digit-comma), h)
 
-  module _ (r : ℕ) (h : digitOf (getD s 0 0) ≡ Of r) where
-    pub comparison-no-operator : operatorOf (getD s 1 0) ≡ No 4 → upToComma (comparisonField correlation) s ≡ No 4
+  module _ (r : ℕ) (h : digitOf (getD s 0 0) ≡ accepted r) where
+    pub comparison-no-operator : operatorOf (getD s 1 0) ≡ refused 4 → upToComma (comparisonField correlation) s ≡ refused 4
     unfolding comparisonField upToComma _>>=_
     comparison-no-operator k =
         rw (byte digitOf digit-zero digit-comma s r h .fields, h, first-byte operatorOf (drop 1 s) (operator-zero ∙ sym operator-comma), second s, k)
 
-    pub comparison-part : (o : Operator) → operatorOf (getD s 1 0) ≡ Of o → upToComma (comparisonField correlation) s ≡ changed (λ x. record { reading = r; operator = o; reference = x }) (λ n. n + 2) (upToComma (referenceField correlation) (drop 2 s))
+    pub comparison-part : (o : Operator) → operatorOf (getD s 1 0) ≡ accepted o → upToComma (comparisonField correlation) s ≡ changed (λ x. record { reading = r; operator = o; reference = x }) (λ n. n + 2) (upToComma (referenceField correlation) (drop 2 s))
     unfolding comparisonField upToComma _>>=_ changed
     comparison-part o k =
         let v = byte digitOf digit-zero digit-comma s r h in
@@ -196,6 +194,6 @@ module _ (correlation : Bool) (s : List ℕ) where
         compared : Reference → Comparison
         compared x = record { reading = r; operator = o; reference = x }
 
-        go : (x : Answer Reference) → ((x >>= λ x. Of (compared x)) >>= λ a. Of (record { value = a; length = suc (suc (indexOf comma (drop 2 s))) })) ≡ changed compared (λ n. n + 2) (x >>= λ a. Of (record { value = a; length = indexOf comma (drop 2 s) }))
-        go (No n) = refl
-        go (Of x) = ap (λ (n : ℕ). Of (record { value = compared x; length = n })) (omega arith)
+        go : (x : Answer Reference) → ((x >>= λ x. accepted (compared x)) >>= λ a. accepted (record { value = a; length = suc (suc (indexOf comma (drop 2 s))) })) ≡ changed compared (λ n. n + 2) (x >>= λ a. accepted (record { value = a; length = indexOf comma (drop 2 s) }))
+        go (refused n) = refl
+        go (accepted x) = ap (λ (n : ℕ). accepted (record { value = compared x; length = n })) (omega arith)

@@ -1,5 +1,6 @@
--- A condition that is written reads back with the same comparisons; one that was read is written as the same bytes, is within its limits, and
--- has noComparison in the slots that are not in use. By the laws of one comparison, comparison by comparison.
+-- A condition that is written reads back with the same comparisons; one that was read is written as
+-- the same bytes, is within its limits, and has noComparison in the slots that are not in use. By
+-- the laws of one comparison, comparison by comparison.
 use mathlib.Core.Path.{_≡_, refl, sym, _∙_, ap}
 use mathlib.Core.Bool.{Bool, true, false, not, cond, _&&_, and-false}
 use mathlib.Core.List.{List, [], _∷_, _++_, map, append-nil, append-assoc}
@@ -16,16 +17,16 @@ use Rattle.declare.proofs.Booleans.{and-left, and-right, both, both₃, and₃,
 use Rattle.number.specs.Number.{dash, none}
 use Rattle.number.specs.Written.{integerText}
 use Rattle.line.specs.Fields.{split, joined}
-use Rattle.line.specs.Answers.{Of, _>>=_, _>>_, require}
+use Rattle.declare.specs.Answers.{accepted, _>>=_, _>>_, require}
 use Rattle.line.specs.Values.{readingText}
-use Rattle.line.proofs.Answers.{of-of, through, required}
+use Rattle.declare.proofs.Answers.{of-of, through, required}
 use Rattle.line.proofs.Fields.{parts}
 use Rattle.line.proofs.Joined.{lacks, split-joined, lacks-joined, joined-split}
 use Rattle.line.proofs.Values.{dash-text, lacks-reading}
 use Rattle.rule_text.specs.Types.{Operator, Equal, NotEqual, Less, AtMost, Greater, AtLeast, Reference, Constant, Activation, Comparison, Condition}
-use Rattle.rule_text.specs.Comparisons.{comparisonField}
+use Rattle.rule_text.specs.Comparisons.{operatorByte, comparisonField}
 use Rattle.rule_text.specs.Conditions.{comma, tested, comparisonsAfter, conditionOf, comparisonsField, conditionField}
-use Rattle.rule_text.specs.Written.{operatorByte, referenceText, comparisonText, comparisonsText, conditionText, tidyCondition}
+use Rattle.rule_text.specs.Written.{referenceText, comparisonText, comparisonsText, conditionText, canonicalCondition}
 use Rattle.rule_text.proofs.ComparisonTexts.{comparison-written, comparison-read, comparison-reading}
 use Rattle.rule_text.proofs.Conditions.{Distinct, at-most-four, distinct-none, distinct-more, comparisons-slots}
 
@@ -41,7 +42,6 @@ module _ (b : ℕ) (low : b < 45) (mark : eqb 33 b ≡ false) where
   other x h = ne-eqb x b (λ e. omega arith)
 
   operator-lacks : (o : Operator) → eqb (operatorByte o) b ≡ false
-  unfolding operatorByte
   operator-lacks Equal = other 61 (omega arith)
   operator-lacks NotEqual = mark
   operator-lacks Less = other 60 (omega arith)
@@ -92,27 +92,27 @@ not-tested (d ∷ cs) c ds h =
     let n : not (eqb (d .reading) (c .reading)) ≡ true = later (λ e. not (eqb (d .reading) (e .reading))) cs c ds (and-left (all (λ e. not (eqb (d .reading) (e .reading))) (cs ++ (c ∷ ds))) (noneTwice (cs ++ (c ∷ ds))) l) in
     rw (not-true (eqb (d .reading) (c .reading)) n) (not-tested cs c ds (and-right (all (λ e. not (eqb (d .reading) (e .reading))) (cs ++ (c ∷ ds))) (noneTwice (cs ++ (c ∷ ds))) l))
 
-after-written : (correlation : Bool) (cs ds : List Comparison) → all (validComparison correlation) ds ≡ true → noneTwice (cs ++ ds) ≡ true → comparisonsAfter correlation cs (map comparisonText ds) ≡ Of (cs ++ ds)
+after-written : (correlation : Bool) (cs ds : List Comparison) → all (validComparison correlation) ds ≡ true → noneTwice (cs ++ ds) ≡ true → comparisonsAfter correlation cs (map comparisonText ds) ≡ accepted (cs ++ ds)
 unfolding all comparisonsAfter _>>=_ _>>_ require
-after-written correlation cs [] v n = ap Of (sym (append-nil cs))
+after-written correlation cs [] v n = ap accepted (sym (append-nil cs))
 after-written correlation cs (d ∷ ds) v n =
     rw (comparison-written correlation d (and-left (validComparison correlation d) (all (validComparison correlation) ds) v), not-tested cs d ds n)
     (after-written correlation (cs ++ (d ∷ [])) ds (and-right (validComparison correlation d) (all (validComparison correlation) ds) v) (rw (append-assoc cs (d ∷ []) ds) n)
-    ∙ ap Of (append-assoc cs (d ∷ []) ds))
+    ∙ ap accepted (append-assoc cs (d ∷ []) ds))
 
 -- a comparison has more bytes than `-`
 not-dash : (c : Comparison) (cs : List Comparison) → dash (joined comma (map comparisonText (c ∷ cs))) ≡ false
 unfolding joined comparisonText dash none
 not-dash c cs = and-false (eqb (48 + c .reading) 45)
 
-list-written : (correlation : Bool) (cs : List Comparison) → all (validComparison correlation) cs ≡ true → noneTwice cs ≡ true → conditionField correlation (comparisonsText cs) ≡ Of (conditionOf cs)
+list-written : (correlation : Bool) (cs : List Comparison) → all (validComparison correlation) cs ≡ true → noneTwice cs ≡ true → conditionField correlation (comparisonsText cs) ≡ accepted (conditionOf cs)
 unfolding conditionField comparisonsField comparisonsText _>>=_ dash none noCondition conditionOf
 list-written correlation [] v n = refl
 list-written correlation (c ∷ cs) v n =
     rw (not-dash c cs, split-joined comma (comparisonText c) (map comparisonText cs) (comparisons-lack comma (omega arith) refl (c ∷ cs)), after-written correlation [] (c ∷ cs) v n)
 
-pub condition-written : (correlation : Bool) (c : Condition) → validCondition correlation c ≡ true → conditionField correlation (conditionText c) ≡ Of (tidyCondition c)
-unfolding validCondition conditionText tidyCondition
+pub condition-written : (correlation : Bool) (c : Condition) → validCondition correlation c ≡ true → conditionField correlation (conditionText c) ≡ accepted (canonicalCondition c)
+unfolding validCondition conditionText canonicalCondition
 condition-written correlation c v =
     let p : (leb (c .count) 4 ≡ true) × (all (validComparison correlation) (comparisonsOf c) ≡ true) × (noneTwice (comparisonsOf c) ≡ true) = and₃ v in
     list-written correlation (comparisonsOf c) (p .1) (p .2)
@@ -128,7 +128,7 @@ map-more : (cs : List Comparison) (c : Comparison) (field : List ℕ) (fields : 
 map-more [] c field fields e = ap (λ (f : List ℕ). f ∷ fields) e
 map-more (d ∷ cs) c field fields e = ap (λ (fs : List (List ℕ)). comparisonText d ∷ fs) (map-more cs c field fields e)
 
-comparisons-read : (correlation : Bool) (cs : List Comparison) (fields : List (List ℕ)) (ds : List Comparison) → all (validComparison correlation) cs ≡ true → Distinct cs → comparisonsAfter correlation cs fields ≡ Of ds → ComparisonsRead correlation cs fields ds
+comparisons-read : (correlation : Bool) (cs : List Comparison) (fields : List (List ℕ)) (ds : List Comparison) → all (validComparison correlation) cs ≡ true → Distinct cs → comparisonsAfter correlation cs fields ≡ accepted ds → ComparisonsRead correlation cs fields ds
 unfolding comparisonsAfter all
 comparisons-read correlation cs [] ds v n h =
     let e : cs ≡ ds = of-of h in
@@ -149,7 +149,7 @@ comparisons-read correlation cs (field ∷ fields) ds v n h =
 pub record ConditionRead (correlation : Bool) (field : List ℕ) (c : Condition) : Type 0 where
   pub text : conditionText c ≡ field
   pub valid : validCondition correlation c ≡ true
-  pub tidied : tidyCondition c ≡ c
+  pub is-canonical : canonicalCondition c ≡ c
 
 -- a split has a first part, so that there is some comparison
 list-text : (cs : List Comparison) (field : List ℕ) → map comparisonText cs ≡ split comma field → comparisonsText cs ≡ field
@@ -162,26 +162,26 @@ unfolding conditionOf
 few-counted cs h = le-leb (length cs) 4 h
 
 list-read : (correlation : Bool) (cs : List Comparison) (field : List ℕ) → ComparisonsRead correlation [] (split comma field) cs → ConditionRead correlation field (conditionOf cs)
-unfolding conditionText validCondition tidyCondition
+unfolding conditionText validCondition canonicalCondition
 list-read correlation cs field w =
     let few = at-most-four cs (w .distinct) in
     let same = comparisons-slots cs few in
     record {
       text = ap comparisonsText same ∙ list-text cs field (w .text);
       valid = both₃ (few-counted cs few) (rw same (w .valid)) (rw same (w .distinct .once));
-      tidied = ap conditionOf same;
+      is-canonical = ap conditionOf same;
     }
 
 none-read : (correlation : Bool) (field : List ℕ) → dash field ≡ true → ConditionRead correlation field noCondition
-unfolding conditionText comparisonsText validCondition tidyCondition noCondition comparisonsOf conditionOf all noneTwice
-none-read correlation field p = record { text = dash-text field p; valid = refl; tidied = refl }
+unfolding conditionText comparisonsText validCondition canonicalCondition noCondition comparisonsOf conditionOf all noneTwice
+none-read correlation field p = record { text = dash-text field p; valid = refl; is-canonical = refl }
 
-pub condition-read : (correlation : Bool) (field : List ℕ) (c : Condition) → conditionField correlation field ≡ Of c → ConditionRead correlation field c
+pub condition-read : (correlation : Bool) (field : List ℕ) (c : Condition) → conditionField correlation field ≡ accepted c → ConditionRead correlation field c
 unfolding conditionField comparisonsField all
 condition-read correlation field c h = go (dash field) refl h
   where
-    go : (t : Bool) → dash field ≡ t → cond t (Of noCondition) (comparisonsField correlation field) ≡ Of c → ConditionRead correlation field c
+    go : (t : Bool) → dash field ≡ t → cond t (accepted noCondition) (comparisonsField correlation field) ≡ accepted c → ConditionRead correlation field c
     go true p q = rw (← of-of q) (none-read correlation field p)
     go false p q =
-        let w = through (comparisonsAfter correlation [] (split comma field)) (λ cs. Of (conditionOf cs)) c q in
+        let w = through (comparisonsAfter correlation [] (split comma field)) (λ cs. accepted (conditionOf cs)) c q in
         rw (← of-of (w .rest)) (list-read correlation (w .value) field (comparisons-read correlation [] (split comma field) (w .value) refl distinct-none (w .first)))

@@ -1,5 +1,6 @@
--- Conditions: of four readings none is tested twice, so that four slots suffice; a condition's slots are its list of comparisons; and
--- comparisons one after the other, by where they begin in the field.
+-- Conditions: of four readings none is tested twice, so that four slots suffice; a condition's
+-- slots are its list of comparisons; and comparisons one after the other, by where they begin in
+-- the field.
 use mathlib.Core.Path.{_≡_, refl, sym, ap}
 use mathlib.Core.Bool.{Bool, true, false, not, cond, _&&_, _||_, false≢true, true≢false}
 use mathlib.Core.List.{List, [], _∷_, _++_, map}
@@ -15,7 +16,7 @@ use Rattle.declare.specs.Rules.{isReading, noneTwice}
 use Rattle.declare.proofs.Booleans.{and-left, and-right, both, all-append}
 use Rattle.declare.proofs.Satisfiability.{one-of-four}
 use Rattle.line.specs.Fields.{indexOf, before, following, countOf, split}
-use Rattle.line.specs.Answers.{Of, No, _>>=_, _>>_, require}
+use Rattle.declare.specs.Answers.{accepted, refused, _>>=_, _>>_, require}
 use Rattle.line.proofs.Fields.{parts}
 use Rattle.rule_text.specs.Types.{Comparison, Condition}
 use Rattle.rule_text.specs.Comparisons.{comparisonField}
@@ -160,12 +161,12 @@ fields-next field at h = rw (le-leb at (length field) h, parts comma (drop at fi
         rw (p, lt-leb (at + i + 1) (length field) l)
 
 module _ (correlation : Bool) (above : List Comparison) (field : List ℕ) (more : List (List ℕ)) where
-  pub after-refused : (n : ℕ) → comparisonField correlation field ≡ No n → comparisonsAfter correlation above (field ∷ more) ≡ No n
+  pub after-refused : (n : ℕ) → comparisonField correlation field ≡ refused n → comparisonsAfter correlation above (field ∷ more) ≡ refused n
   unfolding comparisonsAfter _>>=_
   after-refused n h = rw h
 
-  module _ (c : Comparison) (h : comparisonField correlation field ≡ Of c) where
-    pub after-twice : tested (c .reading) above ≡ true → comparisonsAfter correlation above (field ∷ more) ≡ No 5
+  module _ (c : Comparison) (h : comparisonField correlation field ≡ accepted c) where
+    pub after-twice : tested (c .reading) above ≡ true → comparisonsAfter correlation above (field ∷ more) ≡ refused 5
     unfolding comparisonsAfter _>>=_ _>>_ require
     after-twice t = rw (h, t)
 

@@ -20,8 +20,9 @@ use Rattle.line.specs.Fields.{isByte}
 use Rattle.line.specs.Values.{readingText}
 use Rattle.line.proofs.Lengths.{Within, within-none, within-more, within-most, Each, no-more, _and_, number-within, reading-within, joinedMost, joined-within, text-within}
 use Rattle.rule_text.specs.Types.{Operator, Equal, NotEqual, Less, AtMost, Greater, AtLeast, Reference, Constant, Activation, Comparison, Condition, End, Never, At, Rule}
+use Rattle.rule_text.specs.Comparisons.{operatorByte}
 use Rattle.rule_text.specs.Conditions.{comma}
-use Rattle.rule_text.specs.Written.{operatorByte, referenceText, comparisonText, comparisonsText, conditionText, endText, ruleFields, rulesText, Sound, WrittenBytes}
+use Rattle.rule_text.specs.Written.{referenceText, comparisonText, comparisonsText, conditionText, endText, ruleFields, rulesText, ValidRules, WrittenBytes}
 use Rattle.rule_text.proofs.Conditions.{comparisons-few}
 use Rattle.rule_text.proofs.RoundTrips.{limits}
 
@@ -32,7 +33,7 @@ unfolding isByte
 digit-byte r h = one-of-four (λ k. isByte (48 + k) ≡ true) refl refl refl refl r h
 
 operator-byte : (o : Operator) → isByte (operatorByte o) ≡ true
-unfolding isByte operatorByte
+unfolding isByte
 operator-byte Equal = refl
 operator-byte NotEqual = refl
 operator-byte Less = refl
@@ -93,11 +94,11 @@ condition-within correlation c h =
 -- ---- a line, and a text
 
 end-within : (a : ℕ) (e : End) → validEnd a e ≡ true → Within 10 (endText e)
-unfolding validEnd latest endText isByte
+unfolding validEnd endText isByte
 end-within a Never h = within-more 45 refl (within-none 9)
 end-within a (At b) h =
-    let p : (ltb a b ≡ true) × (leb b 4294967295 ≡ true) = and₂ h in
-    number-within 9 b (omega (arith, leb-true b 4294967295 (p .1)))
+    let p : (ltb a b ≡ true) × (leb b latest ≡ true) = and₂ h in
+    number-within 9 b (omega (arith, leb-true b latest (p .1)))
 
 -- the most bytes of each field
 abbrev fieldsMost : List ℕ
@@ -116,7 +117,7 @@ fields-within r h =
     and condition-within true (r .correlation) (w .correlation)
     and no-more
 
-pub text-bytes : (rs : List Rule) → Sound rs → Within (155 * length rs) (rulesText rs)
+pub text-bytes : (rs : List Rule) → ValidRules rs → Within (155 * length rs) (rulesText rs)
 unfolding rulesText
 text-bytes rs s = text-within ruleFields fieldsMost validRule fields-within rs (s .valid)
 

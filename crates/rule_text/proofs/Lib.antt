@@ -5,7 +5,7 @@ pub mod Conditions
 pub mod ConditionTexts
 pub mod Lines
 pub mod Turns
-pub mod Tidy
+pub mod Canonical
 pub mod RoundTrips
 pub mod Lengths
 pub mod Vectors

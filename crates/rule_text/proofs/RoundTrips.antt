@@ -1,5 +1,6 @@
--- What an accepted rules text gives, and that writing and reading undo each other: first for one line, then for a text by the laws of texts.
--- A rule and its tidy form are written alike, and the tidy form is what is read back.
+-- What an accepted rules text gives, and that writing and reading undo each other: first for one
+-- line, then for a text by the laws of texts.
+-- A rule and its canonical form are written alike, and the canonical form is what is read back.
 use mathlib.Core.Path.{_≡_, refl, sym, _∙_, ap}
 use mathlib.Core.Bool.{Bool, true, false, cond, _&&_}
 use mathlib.Core.List.{List, [], _∷_, _++_, map}
@@ -8,31 +9,31 @@ use native.Mathlib.Omega.{arith}
 use borrow.Author.Tests.{leb-true, le-leb, ltb-true, lt-ltb, eqb-true, ne-eqb}
 use lib.Dec.{leb, ltb}
 use lib.IntN.{pos}
-use lib.ListN.{length, getD, length-append, length-take}
+use lib.ListN.{length, getD, length-append}
 use Rattle.declare.specs.declared.Reading.the-variants.{Blank}
 use Rattle.declare.specs.Lists.{all}
+use Rattle.declare.specs.Limits.{lastActivity, lastTemplate, mostRules}
 use Rattle.declare.specs.Events.{latest, isActivity}
-use Rattle.declare.specs.Rules.{isTemplate, validCondition, validEnd, validWindow, validHead, validRule, rulesOf, validTable}
+use Rattle.declare.specs.Rules.{isTemplate, validCondition, validEnd, validWindow, validHead, validRule}
 use Rattle.declare.proofs.Booleans.{and₂, and₃, and₄, both, all-append}
 use Rattle.number.specs.Number.{dash, none}
 use Rattle.number.specs.Written.{digitsOf, integerText}
 use Rattle.number.proofs.Written.{integer-not-dash}
 use Rattle.line.specs.Fields.{LF, tab}
-use Rattle.line.specs.Answers.{Of, _>>=_, _>>_, require}
+use Rattle.declare.specs.Answers.{accepted, _>>=_, _>>_, require}
 use Rattle.line.specs.Values.{numberField, readingText}
-use Rattle.line.specs.Texts.{Records, All, Stop, writtenLine, writtenText}
-use Rattle.line.proofs.Answers.{of-of, through, required}
+use Rattle.line.specs.Texts.{All, writtenLine, writtenText}
+use Rattle.declare.proofs.Answers.{of-of, through, required}
 use Rattle.line.proofs.Values.{dash-text, number-written, number-read, lacks-number, lacks-reading}
+use Rattle.line.proofs.Lines.{all-numbered}
 use Rattle.line.proofs.Joined.{lacks}
-use Rattle.line.proofs.Texts.{Parted, Follow, text-written, text-back, accepted}
-use Rattle.rule_text.specs.Types.{End, Never, At, Rule, Table}
+use Rattle.line.proofs.Texts.{Parted, Follow, text-written, text-back, accepted-records}
+use Rattle.rule_text.specs.Types.{End, Never, At, Rule}
 use Rattle.rule_text.specs.Conditions.{comma, conditionField}
-use Rattle.rule_text.specs.Rules.{endField, isAbove, ruleOf, inTable, ruleAfter, rulesTextOf}
-use Rattle.rule_text.specs.Written.{conditionText, endText, ruleFields, rulesText, tidy, Sound, RoundTrips}
-use Rattle.rule_text.specs.Reads.{rulesIn, tableOf}
+use Rattle.rule_text.specs.Rules.{endField, isAbove, ruleFieldCount, ruleOf, inTable, ruleAfter, rulesTextOf}
+use Rattle.rule_text.specs.Written.{conditionText, endText, ruleFields, rulesText, canonical, ValidRules, RoundTrips}
 use Rattle.rule_text.proofs.ConditionTexts.{condition-lacks, condition-written, condition-read}
-use Rattle.rule_text.proofs.Tidy.{tidy-comparisons}
-use Rattle.rule_text.proofs.Turns.{table-rules}
+use Rattle.rule_text.proofs.Canonical.{canonical-comparisons}
 
 -- ---- the end of a window
 
@@ -40,13 +41,13 @@ digits-not-dash : (n : ℕ) → dash (digitsOf n) ≡ false
 unfolding integerText
 digits-not-dash n = integer-not-dash (pos n)
 
-end-written : (a : ℕ) (e : End) → validEnd a e ≡ true → endField (endText e) ≡ Of e
-unfolding validEnd latest endField endText _>>=_ dash none
+end-written : (a : ℕ) (e : End) → validEnd a e ≡ true → endField (endText e) ≡ accepted e
+unfolding validEnd endField endText _>>=_ dash none
 end-written a Never v = refl
 end-written a (At b) v =
-    let p : (ltb a b ≡ true) × (leb b 4294967295 ≡ true) = and₂ v in
+    let p : (ltb a b ≡ true) × (leb b latest ≡ true) = and₂ v in
     let low = ltb-true a b (p .0) in
-    rw (digits-not-dash b, number-written 1 4294967295 b (omega arith) (leb-true b 4294967295 (p .1)))
+    rw (digits-not-dash b, number-written 1 latest b (omega arith) (leb-true b latest (p .1)))
 
 record EndRead (field : List ℕ) (e : End) : Type 0 where
   text : endText e ≡ field
@@ -56,20 +57,20 @@ never-read : (field : List ℕ) → dash field ≡ true → EndRead field Never
 unfolding endText validEnd
 never-read field p = record { text = dash-text field p; valid = λ a h. refl }
 
-at-read : (field : List ℕ) (b : ℕ) → numberField 1 4294967295 field ≡ Of b → EndRead field (At b)
-unfolding endText validEnd isAbove latest
+at-read : (field : List ℕ) (b : ℕ) → numberField 1 latest field ≡ accepted b → EndRead field (At b)
+unfolding endText validEnd isAbove
 at-read field b h =
-    let w = number-read 1 4294967295 field b h in
-    record { text = w .text; valid = λ a e. both e (le-leb b 4294967295 (w .high)) }
+    let w = number-read 1 latest field b h in
+    record { text = w .text; valid = λ a e. both e (le-leb b latest (w .high)) }
 
-end-read : (field : List ℕ) (e : End) → endField field ≡ Of e → EndRead field e
+end-read : (field : List ℕ) (e : End) → endField field ≡ accepted e → EndRead field e
 unfolding endField
 end-read field e h = go (dash field) refl h
   where
-    go : (t : Bool) → dash field ≡ t → cond t (Of Never) (numberField 1 4294967295 field >>= λ b. Of (At b)) ≡ Of e → EndRead field e
+    go : (t : Bool) → dash field ≡ t → cond t (accepted Never) (numberField 1 latest field >>= λ b. accepted (At b)) ≡ accepted e → EndRead field e
     go true p q = rw (← of-of q) (never-read field p)
     go false p q =
-        let w = through (numberField 1 4294967295 field) (λ b. Of (At b)) e q in
+        let w = through (numberField 1 latest field) (λ b. accepted (At b)) e q in
         rw (← of-of (w .rest)) (at-read field (w .value) (w .first))
 
 end-lacks : (b : ℕ) → b < 45 → (e : End) → lacks b (endText e) ≡ true
@@ -81,17 +82,17 @@ end-lacks b h (At n) = lacks-number b n h
 
 -- what its seven fields gave
 record RuleRead (fields : List (List ℕ)) (r : Rule) : Type 0 where
-  seven : length fields ≡ 7
-  code : numberField 1 12 (getD fields 0 []) ≡ Of (r .code)
-  activation : numberField 1 64 (getD fields 1 []) ≡ Of (r .activation)
-  target : numberField 1 64 (getD fields 2 []) ≡ Of (r .target)
-  from : numberField 0 4294967295 (getD fields 3 []) ≡ Of (r .window .from)
-  until : endField (getD fields 4 []) ≡ Of (r .window .until)
-  condition : conditionField false (getD fields 5 []) ≡ Of (r .condition)
-  correlation : conditionField true (getD fields 6 []) ≡ Of (r .correlation)
+  seven : length fields ≡ ruleFieldCount
+  code : numberField 1 lastTemplate (getD fields 0 []) ≡ accepted (r .code)
+  activation : numberField 1 lastActivity (getD fields 1 []) ≡ accepted (r .activation)
+  target : numberField 1 lastActivity (getD fields 2 []) ≡ accepted (r .target)
+  from : numberField 0 latest (getD fields 3 []) ≡ accepted (r .window .from)
+  until : endField (getD fields 4 []) ≡ accepted (r .window .until)
+  condition : conditionField false (getD fields 5 []) ≡ accepted (r .condition)
+  correlation : conditionField true (getD fields 6 []) ≡ accepted (r .correlation)
   order : isAbove (r .window .until) (r .window .from) ≡ true
 
-rule-read : (fields : List (List ℕ)) (r : Rule) → ruleOf fields ≡ Of r → RuleRead fields r
+rule-read : (fields : List (List ℕ)) (r : Rule) → ruleOf fields ≡ accepted r → RuleRead fields r
 unfolding ruleOf
 rule-read fields r h =
     let s = required _ 1 _ r h in
@@ -105,14 +106,14 @@ rule-read fields r h =
     let o = required _ 6 _ r (y .rest) in
     let k = of-of (o .1) in
     record {
-      seven = eqb-true (length fields) 7 (s .0);
-      code = c .first ∙ ap (λ (q : Rule). Of (q .code)) k;
-      activation = a .first ∙ ap (λ (q : Rule). Of (q .activation)) k;
-      target = t .first ∙ ap (λ (q : Rule). Of (q .target)) k;
-      from = f .first ∙ ap (λ (q : Rule). Of (q .window .from)) k;
-      until = u .first ∙ ap (λ (q : Rule). Of (q .window .until)) k;
-      condition = x .first ∙ ap (λ (q : Rule). Of (q .condition)) k;
-      correlation = y .first ∙ ap (λ (q : Rule). Of (q .correlation)) k;
+      seven = eqb-true (length fields) ruleFieldCount (s .0);
+      code = c .first ∙ ap (λ (q : Rule). accepted (q .code)) k;
+      activation = a .first ∙ ap (λ (q : Rule). accepted (q .activation)) k;
+      target = t .first ∙ ap (λ (q : Rule). accepted (q .target)) k;
+      from = f .first ∙ ap (λ (q : Rule). accepted (q .window .from)) k;
+      until = u .first ∙ ap (λ (q : Rule). accepted (q .window .until)) k;
+      condition = x .first ∙ ap (λ (q : Rule). accepted (q .condition)) k;
+      correlation = y .first ∙ ap (λ (q : Rule). accepted (q .correlation)) k;
       order = sym (ap (λ (q : Rule). isAbove (q .window .until) (q .window .from)) k) ∙ o .0;
     }
 
@@ -121,92 +122,81 @@ in-range low high n a b = both (le-leb low n a) (le-leb n high b)
 
 -- its rule is within the limits
 read-valid : (fields : List (List ℕ)) (r : Rule) → RuleRead fields r → validRule r ≡ true
-unfolding validRule validHead validWindow isTemplate isActivity latest
+unfolding validRule validHead validWindow isTemplate isActivity
 read-valid fields r h =
-    let c = number-read 1 12 _ _ (h .code) in
-    let a = number-read 1 64 _ _ (h .activation) in
-    let t = number-read 1 64 _ _ (h .target) in
-    let f = number-read 0 4294967295 _ _ (h .from) in
-    rw (in-range 1 12 (r .code) (c .low) (c .high), in-range 1 64 (r .activation) (a .low) (a .high), in-range 1 64 (r .target) (t .low) (t .high), le-leb (r .window .from) 4294967295 (f .high), end-read _ _ (h .until) .valid (r .window .from) (h .order), condition-read false _ _ (h .condition) .valid, condition-read true _ _ (h .correlation) .valid)
+    let c = number-read 1 lastTemplate _ _ (h .code) in
+    let a = number-read 1 lastActivity _ _ (h .activation) in
+    let t = number-read 1 lastActivity _ _ (h .target) in
+    let f = number-read 0 latest _ _ (h .from) in
+    rw (in-range 1 lastTemplate (r .code) (c .low) (c .high), in-range 1 lastActivity (r .activation) (a .low) (a .high), in-range 1 lastActivity (r .target) (t .low) (t .high), le-leb (r .window .from) latest (f .high), end-read _ _ (h .until) .valid (r .window .from) (h .order), condition-read false _ _ (h .condition) .valid, condition-read true _ _ (h .correlation) .valid)
 
 -- has noComparison in the slots that are not in use
-read-tidy : (fields : List (List ℕ)) (r : Rule) → RuleRead fields r → tidy r ≡ r
-unfolding tidy
-read-tidy fields r h = rw (condition-read false _ _ (h .condition) .tidied, condition-read true _ _ (h .correlation) .tidied)
-
-seven-parts : (fs : List (List ℕ)) → length fs ≡ 7 → getD fs 0 [] ∷ getD fs 1 [] ∷ getD fs 2 [] ∷ getD fs 3 [] ∷ getD fs 4 [] ∷ getD fs 5 [] ∷ getD fs 6 [] ∷ [] ≡ fs
-seven-parts [] h = absurd (omega arith)
-seven-parts (a ∷ []) h = absurd (omega arith)
-seven-parts (a ∷ b ∷ []) h = absurd (omega arith)
-seven-parts (a ∷ b ∷ c ∷ []) h = absurd (omega arith)
-seven-parts (a ∷ b ∷ c ∷ d ∷ []) h = absurd (omega arith)
-seven-parts (a ∷ b ∷ c ∷ d ∷ e ∷ []) h = absurd (omega arith)
-seven-parts (a ∷ b ∷ c ∷ d ∷ e ∷ f ∷ []) h = absurd (omega arith)
-seven-parts (a ∷ b ∷ c ∷ d ∷ e ∷ f ∷ g ∷ []) h = refl
-seven-parts (a ∷ b ∷ c ∷ d ∷ e ∷ f ∷ g ∷ k ∷ fs) h = absurd (omega arith)
+read-canonical : (fields : List (List ℕ)) (r : Rule) → RuleRead fields r → canonical r ≡ r
+unfolding canonical
+read-canonical fields r h = rw (condition-read false _ _ (h .condition) .is-canonical, condition-read true _ _ (h .correlation) .is-canonical)
 
 -- and is written as the same fields
 read-fields : (fields : List (List ℕ)) (r : Rule) → RuleRead fields r → ruleFields r ≡ fields
 unfolding ruleFields
 read-fields fields r h =
-    rw (number-read 1 12 _ _ (h .code) .text, number-read 1 64 _ _ (h .activation) .text, number-read 1 64 _ _ (h .target) .text, number-read 0 4294967295 _ _ (h .from) .text, end-read _ _ (h .until) .text, condition-read false _ _ (h .condition) .text, condition-read true _ _ (h .correlation) .text)
-    (seven-parts fields (h .seven))
+    rw (number-read 1 lastTemplate _ _ (h .code) .text, number-read 1 lastActivity _ _ (h .activation) .text, number-read 1 lastActivity _ _ (h .target) .text, number-read 0 latest _ _ (h .from) .text, end-read _ _ (h .until) .text, condition-read false _ _ (h .condition) .text, condition-read true _ _ (h .correlation) .text)
+    (all-numbered ruleFieldCount fields (h .seven))
 
 -- what was checked of a line below others
 record After (above : List Rule) (fields : List (List ℕ)) (r : Rule) : Type 0 where
   line : RuleRead fields r
-  room : length above < 16
+  room : length above < mostRules
 
-rule-after : (above : List Rule) (fields : List (List ℕ)) (r : Rule) → ruleAfter above fields ≡ Of r → After above fields r
+rule-after : (above : List Rule) (fields : List (List ℕ)) (r : Rule) → ruleAfter above fields ≡ accepted r → After above fields r
 unfolding ruleAfter inTable
 rule-after above fields r h =
     let t = through _ _ r h in
     let l = required _ 8 _ r (t .rest) in
     record {
-      line = rule-read fields r (t .first ∙ ap Of (of-of (l .1)));
-      room = ltb-true (length above) 16 (l .0);
+      line = rule-read fields r (t .first ∙ ap accepted (of-of (l .1)));
+      room = ltb-true (length above) mostRules (l .0);
     }
 
 -- ---- an accepted text
 
-record Accepted (rs : List Rule) : Type 0 where
-  sound : Sound rs
-  tidied : map tidy rs ≡ rs
+record AcceptedRules (rs : List Rule) : Type 0 where
+  rules : ValidRules rs
+  is-canonical : map canonical rs ≡ rs
 
-accepted-none : Accepted []
+accepted-none : AcceptedRules []
 unfolding all
-accepted-none = record { sound = record { most = omega arith; valid = refl }; tidied = refl }
+accepted-none = record { rules = record { most = omega arith; valid = refl }; is-canonical = refl }
 
-tidied-more : (rs : List Rule) (r : Rule) → map tidy rs ≡ rs → tidy r ≡ r → map tidy (rs ++ (r ∷ [])) ≡ rs ++ (r ∷ [])
-tidied-more rs r e f = map-append rs (r ∷ []) ∙ rw (e, f)
+canonical-more : (rs : List Rule) (r : Rule) → map canonical rs ≡ rs → canonical r ≡ r → map canonical (rs ++ (r ∷ [])) ≡ rs ++ (r ∷ [])
+canonical-more rs r e f = map-append rs (r ∷ []) ∙ rw (e, f)
   where
-    map-append : (ps qs : List Rule) → map tidy (ps ++ qs) ≡ map tidy ps ++ map tidy qs
+    map-append : (ps qs : List Rule) → map canonical (ps ++ qs) ≡ map canonical ps ++ map canonical qs
     map-append [] qs = refl
-    map-append (p ∷ ps) qs = ap (λ (l : List Rule). tidy p ∷ l) (map-append ps qs)
+    map-append (p ∷ ps) qs = ap (λ (l : List Rule). canonical p ∷ l) (map-append ps qs)
 
-accepted-more : (above : List Rule) (fields : List (List ℕ)) (r : Rule) → Accepted above → ruleAfter above fields ≡ Of r → Accepted (above ++ (r ∷ []))
+accepted-more : (above : List Rule) (fields : List (List ℕ)) (r : Rule) → AcceptedRules above → ruleAfter above fields ≡ accepted r → AcceptedRules (above ++ (r ∷ []))
 unfolding all
 accepted-more above fields r s h =
     let a = rule-after above fields r h in
     record {
-      sound = record {
+      rules = record {
         most = rw (length-append above (r ∷ [])) (omega (arith, a .room));
-        valid = all-append validRule above (r ∷ []) (s .sound .valid) (both (read-valid fields r (a .line)) refl);
+        valid = all-append validRule above (r ∷ []) (s .rules .valid) (both (read-valid fields r (a .line)) refl);
       };
-      tidied = tidied-more above r (s .tidied) (read-tidy fields r (a .line));
+      is-canonical = canonical-more above r (s .is-canonical) (read-canonical fields r (a .line));
     }
 
-accepted-text : (text : List ℕ) (rs : List Rule) → rulesTextOf text ≡ All rs → Accepted rs
+accepted-text : (text : List ℕ) (rs : List Rule) → rulesTextOf text ≡ All rs → AcceptedRules rs
 unfolding rulesTextOf
-accepted-text text rs h = accepted ruleAfter Accepted accepted-none accepted-more text rs h
+accepted-text text rs h = accepted-records ruleAfter AcceptedRules accepted-none accepted-more text rs h
 
 -- ---- a line that is written
 
 pub record Limits (r : Rule) : Type 0 where
-  pub code : (1 ≤ r .code) × (r .code ≤ 12)
-  pub activation : (1 ≤ r .activation) × (r .activation ≤ 64)
-  pub target : (1 ≤ r .target) × (r .target ≤ 64)
-  pub from : r .window .from ≤ 4294967295
+  pub code : (1 ≤ r .code) × (r .code ≤ lastTemplate)
+  pub activation : (1 ≤ r .activation) × (r .activation ≤ lastActivity)
+  pub target : (1 ≤ r .target) × (r .target ≤ lastActivity)
+  pub from : r .window .from ≤ latest
   pub until : validEnd (r .window .from) (r .window .until) ≡ true
   pub condition : validCondition false (r .condition) ≡ true
   pub correlation : validCondition true (r .correlation) ≡ true
@@ -217,16 +207,16 @@ ends low high n h =
     (leb-true low n (p .0), leb-true n high (p .1))
 
 pub limits : (r : Rule) → validRule r ≡ true → Limits r
-unfolding validRule validHead validWindow isTemplate isActivity latest
+unfolding validRule validHead validWindow isTemplate isActivity
 limits r h =
     let p : (validHead r ≡ true) × (validCondition false (r .condition) ≡ true) × (validCondition true (r .correlation) ≡ true) = and₃ h in
     let q : (isTemplate (r .code) ≡ true) × (isActivity (r .activation) ≡ true) × (isActivity (r .target) ≡ true) × (validWindow (r .window) ≡ true) = and₄ (p .0) in
-    let w : (leb (r .window .from) 4294967295 ≡ true) × (validEnd (r .window .from) (r .window .until) ≡ true) = and₂ (q .3) in
+    let w : (leb (r .window .from) latest ≡ true) × (validEnd (r .window .from) (r .window .until) ≡ true) = and₂ (q .3) in
     record {
-      code = ends 1 12 (r .code) (q .0);
-      activation = ends 1 64 (r .activation) (q .1);
-      target = ends 1 64 (r .target) (q .2);
-      from = leb-true (r .window .from) 4294967295 (w .0);
+      code = ends 1 lastTemplate (r .code) (q .0);
+      activation = ends 1 lastActivity (r .activation) (q .1);
+      target = ends 1 lastActivity (r .target) (q .2);
+      from = leb-true (r .window .from) latest (w .0);
       until = w .1;
       condition = p .1;
       correlation = p .2;
@@ -237,25 +227,25 @@ unfolding validEnd isAbove
 valid-above a Never v = refl
 valid-above a (At b) v = and₂ v .0
 
-rule-written : (r : Rule) → validRule r ≡ true → ruleOf (ruleFields r) ≡ Of (tidy r)
-unfolding ruleOf ruleFields tidy require _>>_ _>>=_
+rule-written : (r : Rule) → validRule r ≡ true → ruleOf (ruleFields r) ≡ accepted (canonical r)
+unfolding ruleOf ruleFields canonical require _>>_ _>>=_
 rule-written r h =
     let w = limits r h in
-    rw (number-written 1 12 (r .code) (w .code .0) (w .code .1), number-written 1 64 (r .activation) (w .activation .0) (w .activation .1), number-written 1 64 (r .target) (w .target .0) (w .target .1), number-written 0 4294967295 (r .window .from) (omega arith) (w .from), end-written (r .window .from) (r .window .until) (w .until), condition-written false (r .condition) (w .condition), condition-written true (r .correlation) (w .correlation), valid-above (r .window .from) (r .window .until) (w .until))
+    rw (number-written 1 lastTemplate (r .code) (w .code .0) (w .code .1), number-written 1 lastActivity (r .activation) (w .activation .0) (w .activation .1), number-written 1 lastActivity (r .target) (w .target .0) (w .target .1), number-written 0 latest (r .window .from) (omega arith) (w .from), end-written (r .window .from) (r .window .until) (w .until), condition-written false (r .condition) (w .condition), condition-written true (r .correlation) (w .correlation), valid-above (r .window .from) (r .window .until) (w .until))
 
-after-written : (above : List Rule) (r : Rule) → validRule r ≡ true → length above < 16 → ruleAfter above (ruleFields r) ≡ Of (tidy r)
+after-written : (above : List Rule) (r : Rule) → validRule r ≡ true → length above < mostRules → ruleAfter above (ruleFields r) ≡ accepted (canonical r)
 unfolding ruleAfter inTable require _>>_ _>>=_
-after-written above r h m = rw (rule-written r h, lt-ltb (length above) 16 m)
+after-written above r h m = rw (rule-written r h, lt-ltb (length above) mostRules m)
 
--- a rule and its tidy form are written alike
-tidy-fields : (r : Rule) → ruleFields (tidy r) ≡ ruleFields r
-unfolding ruleFields tidy conditionText
-tidy-fields r = rw (tidy-comparisons (r .condition), tidy-comparisons (r .correlation))
+-- a rule and its canonical form are written alike
+canonical-fields : (r : Rule) → ruleFields (canonical r) ≡ ruleFields r
+unfolding ruleFields canonical conditionText
+canonical-fields r = rw (canonical-comparisons (r .condition), canonical-comparisons (r .correlation))
 
-tidy-text : (rs : List Rule) → rulesText (map tidy rs) ≡ rulesText rs
+canonical-text : (rs : List Rule) → rulesText (map canonical rs) ≡ rulesText rs
 unfolding rulesText writtenText writtenLine
-tidy-text [] = refl
-tidy-text (r ∷ rs) = rw (tidy-fields r, tidy-text rs)
+canonical-text [] = refl
+canonical-text (r ∷ rs) = rw (canonical-fields r, canonical-text rs)
 
 -- neither tab nor LF stands in a field
 lacks-fields : (b : ℕ) → b < 33 → (r : Rule) → all (lacks b) (ruleFields r) ≡ true
@@ -272,54 +262,21 @@ parted r = record { some = omega arith; tabs = lacks-fields tab (omega arith) r;
 
 -- ---- a written text
 
-follow : (above rs : List Rule) → all validRule rs ≡ true → length above + length rs ≤ 16 → Follow ruleAfter ruleFields above (map tidy rs)
+follow : (above rs : List Rule) → all validRule rs ≡ true → length above + length rs ≤ mostRules → Follow ruleAfter ruleFields above (map canonical rs)
 unfolding Follow all
 follow above [] v m = tt
 follow above (r ∷ rs) v m =
     let p : (validRule r ≡ true) × (all validRule rs ≡ true) = and₂ v in (
-      parted (tidy r),
-      ap (ruleAfter above) (tidy-fields r) ∙ after-written above r (p .0) (omega arith),
-      follow (above ++ (tidy r ∷ [])) rs (p .1) (rw (length-append above (tidy r ∷ [])) (omega arith)),
+      parted (canonical r),
+      ap (ruleAfter above) (canonical-fields r) ∙ after-written above r (p .0) (omega arith),
+      follow (above ++ (canonical r ∷ [])) rs (p .1) (rw (length-append above (canonical r ∷ [])) (omega arith)),
     )
 
 pub round-trips : RoundTrips
 unfolding rulesTextOf rulesText
 round-trips =
     record {
-      sound = λ text rs h. (accepted-text text rs h .sound, accepted-text text rs h .tidied);
-      read = λ rs s. ap rulesTextOf (sym (tidy-text rs)) ∙ text-written ruleAfter ruleFields (map tidy rs) (follow [] rs (s .valid) (omega (arith, s .most)));
+      valid = λ text rs h. (accepted-text text rs h .rules, accepted-text text rs h .is-canonical);
+      read = λ rs s. ap rulesTextOf (sym (canonical-text rs)) ∙ text-written ruleAfter ruleFields (map canonical rs) (follow [] rs (s .valid) (omega (arith, s .most)));
       again = λ text rs. text-back ruleAfter ruleFields (λ above fields r h. read-fields fields r (rule-after above fields r h .line)) text rs;
     }
-
--- rules with noComparison in the slots that are not in use
-pub read-same : (rs : List Rule) → Sound rs → map tidy rs ≡ rs → rulesTextOf (rulesText rs) ≡ All rs
-read-same rs s e = round-trips .read rs s ∙ ap All e
-
--- ---- tables
-
--- the rules of a valid table, whatever stands in its unused slots
-pub table-sound : (t : Table) → validTable t ≡ true → Sound (rulesOf t)
-unfolding validTable rulesOf
-table-sound t h =
-    let p : (leb (t .count) 16 ≡ true) × (all validRule (rulesOf t) ≡ true) = and₂ h in
-    let c = leb-true (t .count) 16 (p .0) in
-    record { most = rw (length-take (t .count) (t .rules)) (omega arith); valid = p .1 }
-
-pub table-read : (t : Table) → validTable t ≡ true → rulesTextOf (rulesText (rulesOf t)) ≡ All (map tidy (rulesOf t))
-table-read t h = round-trips .read (rulesOf t) (table-sound t h)
-
-sound-table : (rs : List Rule) → Sound rs → validTable (tableOf rs) ≡ true
-unfolding validTable
-sound-table rs s = both (counted rs (s .most)) (rw (table-rules rs) (s .valid))
-  where
-    counted : (qs : List Rule) → length qs ≤ 16 → leb (tableOf qs .count) 16 ≡ true
-    counted qs h = unfold tableOf in le-leb (length qs) 16 h
-
--- the table that is handed back is valid, for every text
-pub table-valid : (text : List ℕ) → validTable (tableOf (rulesIn (rulesTextOf text))) ≡ true
-unfolding rulesIn
-table-valid text = go (rulesTextOf text) refl
-  where
-    go : (x : Records Rule) → rulesTextOf text ≡ x → validTable (tableOf (rulesIn x)) ≡ true
-    go (All rs) p = sound-table rs (accepted-text text rs p .sound)
-    go (Stop n line) p = sound-table [] (accepted-none .sound)

@@ -1,27 +1,29 @@
--- Comparisons, conditions and whole rules texts, by computation over the definitions: what is accepted, each refusal, and the order of the checks.
+-- Comparisons, conditions and whole rules texts, by computation over the definitions: what is
+-- accepted, each refusal, and the order of the checks.
 use mathlib.Core.Path.{_≡_, refl}
 use mathlib.Core.Bool.{true, false}
 use mathlib.Core.List.{List, [], _∷_, _++_}
-use Prim.Native.Nat.{ℕ, zero, suc}
+use Prim.Native.Nat.{ℕ}
 use Prim.Native.String.{String}
 use lib.IntN.{ℤ, pos, negsuc}
 use lib.ListN.{length, replicate}
 use Rattle.declare.specs.Conditions.{comparisonsOf}
 use Rattle.declare.specs.Lists.{any}
 use Rattle.declare.specs.Rules.{noComparison, noCondition, noRule}
-use Rattle.number.specs.Number.{digit, digits, none, zeroAlone, positive, negative, naturalForm, integerForm, dash, valueFrom, valueOf, integerValue, inRange, naturalOf, inSignedRange, integerOf}
+use Rattle.number.specs.Number.{digit, digits, none, zeroAlone, positive, negative, naturalForm, integerForm, dash, valueFrom, valueOf, integerValue, inNaturalRange, naturalOf, inSignedRange, integerOf}
 use Rattle.number.specs.Written.{digitsIn, digitsOf, integerText}
-use Rattle.number.proofs.Quoted.{bytes, Case, _gives_, Checked}
+use Rattle.number.proofs.Quoted.{bytes, repeated, Case, _gives_, Checked}
 use Rattle.line.specs.Fields.{onto, split, eachAfter, joined}
-use Rattle.line.specs.Answers.{Answer, Of, No, _>>=_, _>>_, require}
+use Rattle.declare.specs.Answers.{Answer, accepted, refused, _>>=_, _>>_, require}
 use Rattle.line.specs.Values.{faultNumber, naturalAnswer, numberField}
 use Rattle.line.specs.Texts.{Records, All, Stop, lineAfter, continued, linesOf, textOf, writtenLine, writtenText}
 use Rattle.rule_text.specs.Types.{Operator, Equal, NotEqual, Less, AtMost, Greater, AtLeast, Reference, Constant, Activation, Comparison, Condition, End, Never, At, Rule}
 use Rattle.rule_text.specs.Comparisons.{readingDigit, digitOf, operatorOf, kNumber, kAnswer, kField, constantField, activationField, referenceField, comparisonField}
 use Rattle.rule_text.specs.Conditions.{tested, comparisonsAfter, conditionOf, comparisonsField, conditionField}
 use Rattle.rule_text.specs.Rules.{endField, isAbove, ruleOf, inTable, ruleAfter, rulesTextOf}
-use Rattle.rule_text.specs.Written.{operatorByte, referenceText, comparisonText, comparisonsText, conditionText, endText, ruleFields, rulesText}
-use Rattle.rule_text.specs.Reads.{padded}
+use Rattle.rule_text.specs.Written.{referenceText, comparisonText, comparisonsText, conditionText, endText, ruleFields, rulesText}
+use Rattle.declare.specs.Limits.{mostRules}
+use Rattle.declare.specs.Slots.{padded}
 
 -- ---- comparisons
 
@@ -31,61 +33,61 @@ compares reading operator reference = record { reading = reading; operator = ope
 -- in an activation condition
 abbrev constants : List (Case (Answer Comparison))
 constants =
-    "1=5" gives Of (compares 1 Equal (Constant (pos 5)))
-    ∷ "2!-7" gives Of (compares 2 NotEqual (Constant (negsuc 6)))
-    ∷ "3<0" gives Of (compares 3 Less (Constant (pos 0)))
-    ∷ "4l2147483647" gives Of (compares 4 AtMost (Constant (pos 2147483647)))
-    ∷ "1>-2147483648" gives Of (compares 1 Greater (Constant (negsuc 2147483647)))
-    ∷ "2g10" gives Of (compares 2 AtLeast (Constant (pos 10)))
+    "1=5" gives accepted (compares 1 Equal (Constant (pos 5)))
+    ∷ "2!-7" gives accepted (compares 2 NotEqual (Constant (negsuc 6)))
+    ∷ "3<0" gives accepted (compares 3 Less (Constant (pos 0)))
+    ∷ "4l2147483647" gives accepted (compares 4 AtMost (Constant (pos 2147483647)))
+    ∷ "1>-2147483648" gives accepted (compares 1 Greater (Constant (negsuc 2147483647)))
+    ∷ "2g10" gives accepted (compares 2 AtLeast (Constant (pos 10)))
     -- not of the form
-    ∷ "" gives No 4
-    ∷ "1" gives No 4
-    ∷ "1=" gives No 4
-    ∷ "0=1" gives No 4
-    ∷ "5=1" gives No 4
-    ∷ "11=5" gives No 4
-    ∷ "=1" gives No 4
-    ∷ "1~5" gives No 4
-    ∷ "1!=5" gives No 4
-    ∷ "1<=5" gives No 4
-    ∷ "1=-" gives No 4
-    ∷ "1=-0" gives No 4
-    ∷ "1=05" gives No 4
-    ∷ "1=+1" gives No 4
-    ∷ "1= 5" gives No 4
-    ∷ "1=5\r" gives No 4
-    ∷ "-" gives No 4
+    ∷ "" gives refused 4
+    ∷ "1" gives refused 4
+    ∷ "1=" gives refused 4
+    ∷ "0=1" gives refused 4
+    ∷ "5=1" gives refused 4
+    ∷ "11=5" gives refused 4
+    ∷ "=1" gives refused 4
+    ∷ "1~5" gives refused 4
+    ∷ "1!=5" gives refused 4
+    ∷ "1<=5" gives refused 4
+    ∷ "1=-" gives refused 4
+    ∷ "1=-0" gives refused 4
+    ∷ "1=05" gives refused 4
+    ∷ "1=+1" gives refused 4
+    ∷ "1= 5" gives refused 4
+    ∷ "1=5\r" gives refused 4
+    ∷ "-" gives refused 4
     -- k outside its range, of any length
-    ∷ "1=2147483648" gives No 3
-    ∷ "1=-2147483649" gives No 3
-    ∷ "1=999999999999999999999999999999999999999999999999999999999999" gives No 3
+    ∷ "1=2147483648" gives refused 3
+    ∷ "1=-2147483649" gives refused 3
+    ∷ "1=999999999999999999999999999999999999999999999999999999999999" gives refused 3
     -- `@`, whatever k is
-    ∷ "1=@1:0" gives No 4
-    ∷ "1=@1:99999999999" gives No 4
+    ∷ "1=@1:0" gives refused 4
+    ∷ "1=@1:99999999999" gives refused 4
     ∷ []
 
 -- in a correlation
 abbrev references : List (Case (Answer Comparison))
 references =
-    "1=5" gives Of (compares 1 Equal (Constant (pos 5)))
-    ∷ "1=@1:0" gives Of (compares 1 Equal (Activation 1 (pos 0)))
-    ∷ "4g@2:-5" gives Of (compares 4 AtLeast (Activation 2 (negsuc 4)))
-    ∷ "3<@4:2147483647" gives Of (compares 3 Less (Activation 4 (pos 2147483647)))
-    ∷ "1=@" gives No 4
-    ∷ "1=@1" gives No 4
-    ∷ "1=@1:" gives No 4
-    ∷ "1=@1:-" gives No 4
-    ∷ "1=@1:x" gives No 4
-    ∷ "1=@1;0" gives No 4
-    ∷ "1=@:0" gives No 4
-    ∷ "1=@0:0" gives No 4
-    ∷ "1=@5:0" gives No 4
-    ∷ "1=@11:0" gives No 4
-    ∷ "1=@1:2147483648" gives No 3
-    ∷ "1=@1:-99999999999" gives No 3
+    "1=5" gives accepted (compares 1 Equal (Constant (pos 5)))
+    ∷ "1=@1:0" gives accepted (compares 1 Equal (Activation 1 (pos 0)))
+    ∷ "4g@2:-5" gives accepted (compares 4 AtLeast (Activation 2 (negsuc 4)))
+    ∷ "3<@4:2147483647" gives accepted (compares 3 Less (Activation 4 (pos 2147483647)))
+    ∷ "1=@" gives refused 4
+    ∷ "1=@1" gives refused 4
+    ∷ "1=@1:" gives refused 4
+    ∷ "1=@1:-" gives refused 4
+    ∷ "1=@1:x" gives refused 4
+    ∷ "1=@1;0" gives refused 4
+    ∷ "1=@:0" gives refused 4
+    ∷ "1=@0:0" gives refused 4
+    ∷ "1=@5:0" gives refused 4
+    ∷ "1=@11:0" gives refused 4
+    ∷ "1=@1:2147483648" gives refused 3
+    ∷ "1=@1:-99999999999" gives refused 3
     -- the form before the range
-    ∷ "1=@5:99999999999" gives No 4
-    ∷ "5=@1:99999999999" gives No 4
+    ∷ "1=@5:99999999999" gives refused 4
+    ∷ "5=@1:99999999999" gives refused 4
     ∷ []
 
 -- ---- conditions
@@ -95,32 +97,32 @@ equals reading k = compares reading Equal (Constant (pos k))
 
 abbrev conditions : List (Case (Answer Condition))
 conditions =
-    "-" gives Of (record { count = 0; first = equals 0 0; second = equals 0 0; third = equals 0 0; fourth = equals 0 0 })
-    ∷ "1=5" gives Of (record { count = 1; first = equals 1 5; second = equals 0 0; third = equals 0 0; fourth = equals 0 0 })
+    "-" gives accepted (record { count = 0; first = equals 0 0; second = equals 0 0; third = equals 0 0; fourth = equals 0 0 })
+    ∷ "1=5" gives accepted (record { count = 1; first = equals 1 5; second = equals 0 0; third = equals 0 0; fourth = equals 0 0 })
     -- in text order
-    ∷ "4=1,3=2,2=3,1=4" gives Of (record { count = 4; first = equals 4 1; second = equals 3 2; third = equals 2 3; fourth = equals 1 4 })
+    ∷ "4=1,3=2,2=3,1=4" gives accepted (record { count = 4; first = equals 4 1; second = equals 3 2; third = equals 2 3; fourth = equals 1 4 })
     -- each part is a comparison
-    ∷ "" gives No 4
-    ∷ "--" gives No 4
-    ∷ "," gives No 4
-    ∷ "1=5," gives No 4
-    ∷ ",1=5" gives No 4
-    ∷ "1=5,,2=5" gives No 4
-    ∷ "1=5,-" gives No 4
-    ∷ "-,1=5" gives No 4
-    ∷ "1=5,1=6" gives No 5
-    ∷ "1=5,2=6,1=7" gives No 5
+    ∷ "" gives refused 4
+    ∷ "--" gives refused 4
+    ∷ "," gives refused 4
+    ∷ "1=5," gives refused 4
+    ∷ ",1=5" gives refused 4
+    ∷ "1=5,,2=5" gives refused 4
+    ∷ "1=5,-" gives refused 4
+    ∷ "-,1=5" gives refused 4
+    ∷ "1=5,1=6" gives refused 5
+    ∷ "1=5,2=6,1=7" gives refused 5
     -- comparison by comparison 4, 3, 5
-    ∷ "1=5,1=x" gives No 4
-    ∷ "1=5,1=99999999999" gives No 3
-    ∷ "1=5,1=6,zz" gives No 5
-    ∷ "1=x,2=99999999999" gives No 4
-    ∷ "1=99999999999,x" gives No 3
+    ∷ "1=5,1=x" gives refused 4
+    ∷ "1=5,1=99999999999" gives refused 3
+    ∷ "1=5,1=6,zz" gives refused 5
+    ∷ "1=x,2=99999999999" gives refused 4
+    ∷ "1=99999999999,x" gives refused 3
     -- a fifth: of the form and in range it can only be of a reading tested before
-    ∷ "1=1,2=1,3=1,4=1,1=1" gives No 5
-    ∷ "1=1,2=1,3=1,4=1,4=1,zz" gives No 5
-    ∷ "1=1,2=1,3=1,4=1,5=1" gives No 4
-    ∷ "1=1,2=1,3=1,4=1,2=99999999999" gives No 3
+    ∷ "1=1,2=1,3=1,4=1,1=1" gives refused 5
+    ∷ "1=1,2=1,3=1,4=1,4=1,zz" gives refused 5
+    ∷ "1=1,2=1,3=1,4=1,5=1" gives refused 4
+    ∷ "1=1,2=1,3=1,4=1,2=99999999999" gives refused 3
     ∷ []
 
 -- ---- texts
@@ -158,8 +160,8 @@ longest =
       correlation = each (Activation 1 lowest);
     }
 
-abbrev accepted : List (Case (Records Rule))
-accepted =
+abbrev acceptedTexts : List (Case (Records Rule))
+acceptedTexts =
     "" gives All []
     ∷ "1\t1\t1\t0\t1\t-\t-\n" gives All (rule 1 1 1 0 (At 1) (conditionOf []) ∷ [])
     ∷ "12\t64\t64\t4294967294\t4294967295\t-\t-\n" gives All (rule 12 64 64 4294967294 (At 4294967295) (conditionOf []) ∷ [])
@@ -168,8 +170,8 @@ accepted =
     ∷ []
 
 -- each cause, with its line
-abbrev refused : List (Case (Records Rule))
-refused =
+abbrev refusedTexts : List (Case (Records Rule))
+refusedTexts =
     -- an empty line is one empty field; a tab at the end of a line leaves an empty field behind it
     "\n" gives Stop 1 1
     ∷ "1\t1\t1\t0\t-\t-\n" gives Stop 1 1
@@ -244,7 +246,7 @@ ordered =
     ∷ "1\t1\t1\t5\t5\t-\t1=99999999999\n" gives Stop 3 1
     ∷ "1\t1\t1\t5\t5\t-\t1=1,1=2\n" gives Stop 5 1
     ∷ "1\t1\t1\t5\t0\t-\t-\n" gives Stop 3 1
-    -- the first line that is refused
+    -- the first line that is refusedTexts
     ∷ "1\t1\t1\t5\t5\t-\t-\nx\n" gives Stop 6 1
     ∷ "\n1" gives Stop 1 1
     ∷ []
@@ -264,26 +266,22 @@ full =
     ∷ "" gives All (replicate 16 (rule 1 1 1 0 Never (conditionOf [])))
     ∷ []
 
-abbrev times : ℕ → List ℕ → List ℕ
-times zero line = []
-times (suc n) line = line ++ times n line
-
 pub record Vectors : Type 0 where
   pub of-constants : Checked (comparisonField false) constants
   pub of-references : Checked (comparisonField true) references
   pub of-conditions : Checked (conditionField false) conditions
   pub listing-read : rulesTextOf listingText ≡ All listing
   pub listing-written : rulesText listing ≡ listingText
-  pub of-accepted : Checked rulesTextOf accepted
+  pub of-accepted : Checked rulesTextOf acceptedTexts
   pub of-longest : length (bytes longestText) ≡ 155
-  pub of-refused : Checked rulesTextOf refused
+  pub of-refused : Checked rulesTextOf refusedTexts
   pub of-ordered : Checked rulesTextOf ordered
-  pub of-full : Checked (λ s. rulesTextOf (times 16 (bytes "1\t1\t1\t0\t-\t-\t-\n") ++ s)) full
+  pub of-full : Checked (λ s. rulesTextOf (repeated 16 "1\t1\t1\t0\t-\t-\t-\n" ++ s)) full
   -- 16 slots
-  pub of-slots : padded listing ≡ listing ++ replicate 14 noRule
+  pub of-slots : padded mostRules noRule listing ≡ listing ++ replicate 14 noRule
 
 pub vectors : Vectors
-unfolding any comparisonsOf noComparison noCondition noRule digit digits none zeroAlone positive negative naturalForm integerForm dash valueFrom valueOf integerValue inRange naturalOf inSignedRange integerOf digitsIn digitsOf integerText onto split eachAfter joined _>>=_ _>>_ require faultNumber naturalAnswer numberField lineAfter continued linesOf textOf writtenLine writtenText readingDigit digitOf operatorOf kNumber kAnswer kField constantField activationField referenceField comparisonField tested comparisonsAfter conditionOf comparisonsField conditionField endField isAbove ruleOf inTable ruleAfter rulesTextOf operatorByte referenceText comparisonText comparisonsText conditionText endText ruleFields rulesText padded
+unfolding any comparisonsOf noComparison noCondition noRule digit digits none zeroAlone positive negative naturalForm integerForm dash valueFrom valueOf integerValue inNaturalRange naturalOf inSignedRange integerOf digitsIn digitsOf integerText onto split eachAfter joined _>>=_ _>>_ require faultNumber naturalAnswer numberField lineAfter continued linesOf textOf writtenLine writtenText readingDigit digitOf operatorOf kNumber kAnswer kField constantField activationField referenceField comparisonField tested comparisonsAfter conditionOf comparisonsField conditionField endField isAbove ruleOf inTable ruleAfter rulesTextOf referenceText comparisonText comparisonsText conditionText endText ruleFields rulesText padded
 vectors =
     record {
       of-constants = refl;

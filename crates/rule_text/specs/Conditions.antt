@@ -8,7 +8,7 @@ use Rattle.declare.specs.Lists.{any}
 use Rattle.declare.specs.Rules.{noComparison, noCondition}
 use Rattle.number.specs.Number.{dash}
 use Rattle.line.specs.Fields.{split}
-use Rattle.line.specs.Answers.{Answer, Of, _>>=_, _>>_, require}
+use Rattle.declare.specs.Answers.{Answer, accepted, _>>=_, _>>_, require}
 use Rattle.rule_text.specs.Types.{Comparison, Condition}
 use Rattle.rule_text.specs.Comparisons.{comparisonField}
 
@@ -22,13 +22,14 @@ tested reading cs = any (λ c. eqb (c .reading) reading) cs
 
 -- "in a condition comparison by comparison" 4, 3, 5; "reading compared a second time" is 5
 unfoldable pub comparisonsAfter : Bool → List Comparison → List (List ℕ) → Answer (List Comparison)
-comparisonsAfter correlation above [] = Of above
+comparisonsAfter correlation above [] = accepted above
 comparisonsAfter correlation above (field ∷ fields) = do
   c ← comparisonField correlation field
   require (not (tested (c .reading) above)) 5
   comparisonsAfter correlation (above ++ (c ∷ [])) fields
 
--- "A rule keeps its comparisons in text order": the first four of cs; what stands in the other slots document 01 leaves free, here it is noComparison
+-- "A rule keeps its comparisons in text order": the first four of cs; what stands in the other
+-- slots document 01 leaves free, here it is noComparison
 unfoldable pub conditionOf : List Comparison → Condition
 conditionOf cs =
     record {
@@ -42,8 +43,8 @@ conditionOf cs =
 unfoldable pub comparisonsField : Bool → List ℕ → Answer Condition
 comparisonsField correlation field = do
   cs ← comparisonsAfter correlation [] (split comma field)
-  Of (conditionOf cs)
+  accepted (conditionOf cs)
 
 -- of an activation condition or of a correlation
 unfoldable pub conditionField : Bool → List ℕ → Answer Condition
-conditionField correlation field = cond (dash field) (Of noCondition) (comparisonsField correlation field)
+conditionField correlation field = cond (dash field) (accepted noCondition) (comparisonsField correlation field)

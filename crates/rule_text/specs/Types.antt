@@ -27,10 +27,8 @@ pub use Rattle.rule_text.specs.declared.comparison.ComparisonAnswer.{Com
 pub use Rattle.rule_text.specs.declared.comparison.ComparisonAnswer.the-variants.{Compared, NotCompared}
 pub use Rattle.rule_text.specs.declared.condition.ConditionAnswer.{ConditionAnswer}
 pub use Rattle.rule_text.specs.declared.condition.ConditionAnswer.the-variants.{Comparisons, NoComparisons}
-pub use Rattle.rule_text.specs.declared.field.ByteAnswer.{ByteAnswer}
-pub use Rattle.rule_text.specs.declared.field.ByteAnswer.the-variants.{Byte, NoByte}
-pub use Rattle.rule_text.specs.declared.field.EndAnswer.{EndAnswer}
-pub use Rattle.rule_text.specs.declared.field.EndAnswer.the-variants.{Until, NoUntil}
+pub use Rattle.rule_text.specs.declared.window.EndAnswer.{EndAnswer}
+pub use Rattle.rule_text.specs.declared.window.EndAnswer.the-variants.{Until, NoUntil}
 pub use Rattle.rule_text.specs.declared.rule.RuleHead.{RuleHead}
 pub use Rattle.rule_text.specs.declared.rule.HeadAnswer.{HeadAnswer}
 pub use Rattle.rule_text.specs.declared.rule.HeadAnswer.the-variants.{Head, NoHead}

@@ -5,35 +5,29 @@ use mathlib.Core.List.{List, [], _∷_, map}
 use Prim.Native.Nat.{ℕ, _+_, _*_, _≤_}
 use lib.ListN.{length}
 use Rattle.declare.specs.Lists.{all}
+use Rattle.declare.specs.Limits.{mostRules}
 use Rattle.declare.specs.Conditions.{comparisonsOf}
 use Rattle.declare.specs.Rules.{validRule}
+use Rattle.number.specs.Number.{digit0, hyphen}
 use Rattle.number.specs.Written.{digitsOf, integerText}
 use Rattle.line.specs.Fields.{isByte, joined}
-use Rattle.line.specs.Texts.{All, writtenLine, writtenText}
-use Rattle.rule_text.specs.Types.{Operator, Equal, NotEqual, Less, AtMost, Greater, AtLeast, Reference, Constant, Activation, Comparison, Condition, End, Never, At, Rule}
+use Rattle.line.specs.Texts.{All, writtenText}
+use Rattle.rule_text.specs.Types.{Reference, Constant, Activation, Comparison, Condition, End, Never, At, Rule}
+use Rattle.rule_text.specs.Comparisons.{colon, atSign, operatorByte}
 use Rattle.rule_text.specs.Conditions.{comma, conditionOf}
 use Rattle.rule_text.specs.Rules.{rulesTextOf}
-
--- `=` `!` `<` `l` `>` `g`
-unfoldable pub operatorByte : Operator → ℕ
-operatorByte Equal = 61
-operatorByte NotEqual = 33
-operatorByte Less = 60
-operatorByte AtMost = 108
-operatorByte Greater = 62
-operatorByte AtLeast = 103
 
 -- k; or `@`, a digit, `:`, k
 unfoldable pub referenceText : Reference → List ℕ
 referenceText (Constant k) = integerText k
-referenceText (Activation g k) = 64 ∷ (48 + g) ∷ 58 ∷ integerText k
+referenceText (Activation g k) = atSign ∷ (digit0 + g) ∷ colon ∷ integerText k
 
 unfoldable pub comparisonText : Comparison → List ℕ
-comparisonText c = (48 + c .reading) ∷ operatorByte (c .operator) ∷ referenceText (c .reference)
+comparisonText c = (digit0 + c .reading) ∷ operatorByte (c .operator) ∷ referenceText (c .reference)
 
 -- `-` for no comparisons
 unfoldable pub comparisonsText : List Comparison → List ℕ
-comparisonsText [] = 45 ∷ []
+comparisonsText [] = hyphen ∷ []
 comparisonsText (c ∷ cs) = joined comma (map comparisonText (c ∷ cs))
 
 unfoldable pub conditionText : Condition → List ℕ
@@ -41,7 +35,7 @@ conditionText c = comparisonsText (comparisonsOf c)
 
 -- `-` for no end
 unfoldable pub endText : End → List ℕ
-endText Never = 45 ∷ []
+endText Never = hyphen ∷ []
 endText (At b) = digitsOf b
 
 unfoldable pub ruleFields : Rule → List (List ℕ)
@@ -55,49 +49,47 @@ ruleFields r =
     ∷ conditionText (r .correlation)
     ∷ []
 
-unfoldable pub ruleLineOf : Rule → List ℕ
-ruleLineOf r = writtenLine ruleFields r
-
 unfoldable pub rulesText : List Rule → List ℕ
 rulesText rs = writtenText ruleFields rs
 
--- ---- slots past a condition's count: a text says nothing of them, and a rule that was read has noComparison there
+-- ---- slots past a condition's count: a text says nothing of them, and a rule that was read has
+-- noComparison there
 
-unfoldable pub tidyCondition : Condition → Condition
-tidyCondition c = conditionOf (comparisonsOf c)
+unfoldable pub canonicalCondition : Condition → Condition
+canonicalCondition c = conditionOf (comparisonsOf c)
 
 -- the same rule, with noComparison in the slots that are not in use
-unfoldable pub tidy : Rule → Rule
-tidy r =
+unfoldable pub canonical : Rule → Rule
+canonical r =
     record {
       code = r .code;
       activation = r .activation;
       target = r .target;
       window = r .window;
-      condition = tidyCondition (r .condition);
-      correlation = tidyCondition (r .correlation);
+      condition = canonicalCondition (r .condition);
+      correlation = canonicalCondition (r .correlation);
     }
 
 -- ---- both ways
 
--- at most 16 valid rules
-pub record Sound (rs : List Rule) : Type 0 where
-  pub most : length rs ≤ 16
+-- rules that a valid table can hold
+pub record ValidRules (rs : List Rule) : Type 0 where
+  pub most : length rs ≤ mostRules
   pub valid : all validRule rs ≡ true
 
 -- proved in proofs/RoundTrips
 pub record RoundTrips : Type 0 where
   -- an accepted text gives such rules, with noComparison in the slots that are not in use
-  pub sound : (text : List ℕ) (rs : List Rule) → rulesTextOf text ≡ All rs → Sound rs × (map tidy rs ≡ rs)
+  pub valid : (text : List ℕ) (rs : List Rule) → rulesTextOf text ≡ All rs → ValidRules rs × (map canonical rs ≡ rs)
   -- "a written text reads back as the same records": equal in the slots that are in use
-  pub read : (rs : List Rule) → Sound rs → rulesTextOf (rulesText rs) ≡ All (map tidy rs)
+  pub read : (rs : List Rule) → ValidRules rs → rulesTextOf (rulesText rs) ≡ All (map canonical rs)
   -- "an accepted text comes out again byte for byte"
   pub again : (text : List ℕ) (rs : List Rule) → rulesTextOf text ≡ All rs → rulesText rs ≡ text
 
 -- proved in proofs/Lengths
 pub record WrittenBytes : Type 0 where
-  pub bytes : (rs : List Rule) → Sound rs → all isByte (rulesText rs) ≡ true
+  pub bytes : (rs : List Rule) → ValidRules rs → all isByte (rulesText rs) ≡ true
   -- a line: a code and two activities of at most 2 digits, a and b of at most 10, an activation
   -- condition of at most four `1=k` of 13 bytes and three commas, a correlation of at most four
   -- `1=@1:k` of 16 bytes and three commas, six tabs and LF; so a table has at most 2480 bytes
-  pub most : (rs : List Rule) → Sound rs → length (rulesText rs) ≤ 155 * length rs
+  pub most : (rs : List Rule) → ValidRules rs → length (rulesText rs) ≤ 155 * length rs

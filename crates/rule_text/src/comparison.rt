@@ -1,4 +1,5 @@
-// Comparisons: each function is handed the part of a condition that begins at what it reads, which ends at a comma or with the part.
+// Comparisons: each function is handed the part of a condition that begins at what it reads, which
+// ends at a comma or with the part.
 ghost use mathlib.Core.Path.{_≡_};
 ghost use Rattle.declare.specs.Refusals.{numberOf};
 ghost use Rattle.rule_text.specs.Comparisons.{readingDigit, operatorOf, kNumber, kField, constantField, activationField, referenceField, comparisonField};

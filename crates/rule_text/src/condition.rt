@@ -2,18 +2,19 @@
 ghost use mathlib.Core.Path.{_≡_};
 ghost use mathlib.Core.List.{[], _∷_, _++_};
 ghost use Prim.Native.Nat.{_<_};
+ghost use Rattle.declare.specs.Limits.{mostComparisons};
 ghost use Rattle.declare.specs.Conditions.{comparisonsOf};
 ghost use Rattle.line.specs.Fields.{indexOf, before};
 ghost use Rattle.rule_text.specs.Conditions.{tested, conditionOf, comparisonsField, conditionField};
 ghost use Rattle.rule_text.specs.Reads.{conditionRead};
 use crate::comparison::ComparisonAnswer;
 use crate::comparison::comparison;
-use crate::field::is_dash;
 use declare::Comparison;
 use declare::Condition;
 use declare::Refusal;
 use declare::slots::no_comparison;
 use declare::slots::no_condition;
+use line::is_dash;
 
 // Whether a comparison is of the reading.
 fn tests(condition: Condition, reading: u8) -> bool
@@ -46,7 +47,7 @@ fn slots(
 
 // One comparison more.
 fn with(condition: Condition, next: Comparison) -> Condition
-    requires { ⌜ condition .count < 4 ⌝ }
+    requires { ⌜ condition .count < mostComparisons ⌝ }
     ensures { λ r. ⌜ r ≡ conditionOf (comparisonsOf condition ++ (next ∷ [])) ⌝ }
 {
     let none = no_comparison();

@@ -1,5 +1,5 @@
 // The rules text: a table of rules, or the first refusal and its line.
-mod field; // field.rt: the fields of a rule line that hold a number
+mod window; // window.rt: the end of a window
 mod comparison; // comparison.rt: comparisons, and what they compare with
 mod condition; // condition.rt: conditions
 mod rule; // rule.rt: rule lines
@@ -9,9 +9,11 @@ ghost use mathlib.Core.List.{[]};
 ghost use Rattle.declare.specs.Rules.{rulesOf};
 ghost use Rattle.line.specs.Texts.{recordsRead};
 ghost use Rattle.rule_text.specs.Rules.{rulesTextOf};
-ghost use Rattle.rule_text.specs.Reads.{rulesIn, tableOf};
+ghost use Rattle.declare.specs.Slots.{tableOf};
+ghost use Rattle.rule_text.specs.Reads.{rulesIn};
 use crate::rule::RuleAnswer;
 use crate::rule::rule_line;
+use declare::RULES;
 use declare::Refusal;
 use declare::Table;
 use declare::slots::no_rule;
@@ -28,20 +30,21 @@ fn refused(cause: Refusal, line: usize) -> RulesRead
     ensures { λ r. ⌜ r .table ≡ tableOf [] ⌝ }
 {
     let none = no_rule();
-    let rules = [none; 16];
+    let rules = [none; RULES];
     RulesRead {
         outcome: Outcome::Refused(cause, line),
         table: Table { count: 0, rules },
     }
 }
 
-// The rules of a rules text. Each line's reader is handed the part of the text that begins at the line.
+// The rules of a rules text. Each line's reader is handed the part of the text that begins at the
+// line.
 pub fn read_rules(text: &[u8]) -> RulesRead
     ensures { λ r. ⌜ recordsRead (r .outcome) (rulesOf (r .table)) ≡ rulesTextOf (now (text .entry)) ⌝ }
     ensures { λ r. ⌜ r .table ≡ tableOf (rulesIn (rulesTextOf (now (text .entry)))) ⌝ }
 {
     let none = no_rule();
-    let mut rules = [none; 16];
+    let mut rules = [none; RULES];
     let mut count: usize = 0;
     let mut at = 0;
     while at < text.len() {
@@ -50,7 +53,7 @@ pub fn read_rules(text: &[u8]) -> RulesRead
         match answer {
             RuleAnswer::NoRule(cause) => return refused(cause, count + 1),
             RuleAnswer::Found(rule) => {
-                if 16 <= count {
+                if RULES <= count {
                     return refused(Refusal::TooMany, count + 1);
                 }
                 rules[count] = rule;

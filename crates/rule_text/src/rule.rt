@@ -1,23 +1,31 @@
-// Rule lines: the fields are read one after the other, each from the part of the line that begins at it; then the first refusal is told.
+// Rule lines: the fields are read one after the other, each from the part of the line that begins
+// at it; then the first refusal is told.
 ghost use mathlib.Core.Path.{_≡_};
 ghost use Prim.Native.Nat.{_+_};
-ghost use Rattle.line.specs.Fields.{LF, indexOf};
+ghost use Rattle.line.specs.Fields.{LF, indexOf, fieldsFrom};
 ghost use Rattle.line.specs.Texts.{lineOf};
-ghost use Rattle.line.specs.Values.{numberRead};
-ghost use Rattle.rule_text.specs.Rules.{isAbove, ruleOf};
-ghost use Rattle.rule_text.specs.Reads.{fieldsFrom, conditionRead, byteRead, endRead, headRead, headBy, ruleRead, ruleBy};
+ghost use Rattle.line.specs.Values.{numberRead, byteRead};
+ghost use Rattle.rule_text.specs.Rules.{ruleOf};
+ghost use Rattle.rule_text.specs.Reads.{conditionRead, endRead, headRead, headBy, ruleRead, ruleBy};
 use crate::condition::ConditionAnswer;
 use crate::condition::condition_field;
-use crate::field::ByteAnswer;
-use crate::field::EndAnswer;
-use crate::field::byte_field;
-use crate::field::end_field;
-use crate::field::rest_of;
-use declare::End;
+use crate::window::EndAnswer;
+use crate::window::end_field;
+use crate::window::is_above;
+use declare::LAST_ACTIVITY;
+use declare::LAST_TEMPLATE;
 use declare::Refusal;
 use declare::Rule;
 use declare::Window;
+use line::ByteAnswer;
+use line::LINE_FEED;
 use line::NumberAnswer;
+use line::TAB;
+use line::byte_field;
+use line::rest_of;
+
+// The tabs between the seven fields of a line.
+const TABS: usize = 6;
 
 // A rule without its conditions.
 struct RuleHead {
@@ -71,16 +79,6 @@ fn head_of(
     }
 }
 
-// b is above a, or there is no end.
-fn is_above(until: End, from: u32) -> bool
-    ensures { λ r. ⌜ r ≡ isAbove until from ⌝ }
-{
-    match until {
-        End::Never => true,
-        End::At(b) => from < b,
-    }
-}
-
 pub enum RuleAnswer {
     Found(Rule),
     NoRule(Refusal),
@@ -120,25 +118,25 @@ fn rule_of(head: HeadAnswer, condition: ConditionAnswer, correlation: ConditionA
 fn read_rule(part: &[u8]) -> RuleAnswer
     ensures { λ r. ⌜ ruleRead r ≡ ruleOf (fieldsFrom 6 (now (part .entry))) ⌝ }
 {
-    let field = byte_field(part, 12);
+    let field = byte_field(part, LAST_TEMPLATE);
     let code = field.answer;
     let part = rest_of(part, field.length);
-    let field = byte_field(part, 64);
+    let field = byte_field(part, LAST_ACTIVITY);
     let activation = field.answer;
     let part = rest_of(part, field.length);
-    let field = byte_field(part, 64);
+    let field = byte_field(part, LAST_ACTIVITY);
     let target = field.answer;
     let part = rest_of(part, field.length);
-    let field = line::number_field(part, b'\t', 0, 4294967295);
+    let field = line::number_field(part, TAB, 0, u32::MAX);
     let from = field.answer;
     let part = rest_of(part, field.length);
     let field = end_field(part);
     let until = field.answer;
     let part = rest_of(part, field.length);
-    let field = condition_field(part, b'\t', false);
+    let field = condition_field(part, TAB, false);
     let condition = field.answer;
     let part = rest_of(part, field.length);
-    let field = condition_field(part, b'\n', true);
+    let field = condition_field(part, LINE_FEED, true);
     let correlation = field.answer;
     let head = head_of(code, activation, target, from, until);
     rule_of(head, condition, correlation)
@@ -154,7 +152,7 @@ pub fn rule_line(rest: &[u8]) -> RuleLine
     ensures { λ r. ⌜ ruleRead (r .answer) ≡ lineOf ruleOf (now (rest .entry)) ⌝ }
     ensures { λ r. ⌜ r .next ≡ indexOf LF (now (rest .entry)) + 1 ⌝ }
 {
-    let scan = line::scan_line(rest, b'\t');
+    let scan = line::scan_line(rest, TAB);
     let end = scan.end;
     let next = end + 1;
     if rest.len() <= end {
@@ -163,7 +161,7 @@ pub fn rule_line(rest: &[u8]) -> RuleLine
             next,
         };
     }
-    if scan.separators != 6 {
+    if scan.separators != TABS {
         return RuleLine {
             answer: RuleAnswer::NoRule(Refusal::FieldCount),
             next,

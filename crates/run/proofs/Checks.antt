@@ -2,20 +2,19 @@
 use mathlib.Core.Path.{_≡_, refl, sym, ap, _∙_}
 use mathlib.Core.Bool.{Bool, true, false, _&&_}
 use mathlib.Core.List.{List}
-use Prim.Native.Nat.{ℕ, _+_, _-_, _*_, _/_, _%_, _<_}
+use Prim.Native.Nat.{ℕ, _+_, _*_, _/_, _%_, _<_}
 use native.Mathlib.Numerals.{add-one}
-use native.Mathlib.Omega.{arith}
 use lib.Dec.{leb}
 use lib.ListN.{length, getD, take}
 use lib.Seq.{take-suc}
 use Rattle.declare.specs.declared.Event.{Event}
 use Rattle.declare.specs.Lists.{all, allBelow}
 use Rattle.declare.specs.Events.{wellFormed, nonFallingFrom, nonFalling, lastFrom, lastTime, noEvent}
-use Rattle.declare.specs.Steps.{capacity}
-use Rattle.judge.specs.declared.Cell.{Cell}
-use Rattle.judge.specs.Cells.{idleCell, standingIn}
+use Rattle.standings.specs.declared.Cell.{Cell}
+use Rattle.standings.specs.Places.{idleCell, standingIn}
+use Rattle.standings.proofs.Same.{standing-at}
 use Rattle.run.specs.Records.{validAt, validRow, validStandings}
-use Rattle.run.proofs.Lists.{all-more, all-same, all-rows, falls-more, last-more}
+use Rattle.declare.proofs.Lists.{all-more, all-same, all-rows, falls-more, last-more}
 
 -- ---- the events: well-formed so far, and their times have not fallen
 
@@ -48,16 +47,8 @@ followed-again {events} {n} f h e =
 
 -- ---- rows
 
--- the cell at a place, by its row and its place in the row
-standing-at : (cells : List Cell) (j : ℕ) → standingIn cells (j / 256 + 1) (j % 256 + 1) ≡ (getD cells j idleCell) .standing
-unfolding standingIn
-standing-at cells j = ap (λ (i : ℕ). (getD cells i idleCell) .standing) place
-  where
-    place : (j / 256 + 1 - 1) * 256 + (j % 256 + 1 - 1) ≡ j
-    place = omega arith
-
 pub flat-standings : (closed : Bool) (rules count : ℕ) (cells : List Cell) → allBelow (λ j. validAt closed count (j % 256 + 1) ((getD cells j idleCell) .standing)) (rules * 256) ≡ validStandings closed rules count cells
-unfolding validStandings validRow capacity
+unfolding validStandings validRow
 flat-standings closed rules count cells =
     all-same (λ j. validAt closed count (j % 256 + 1) ((getD cells j idleCell) .standing)) (λ j. at (j / 256) (j % 256)) (rules * 256)
     (λ j l. ap (validAt closed count (j % 256 + 1)) (sym (standing-at cells j)))

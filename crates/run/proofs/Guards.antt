@@ -1,148 +1,96 @@
--- What each call replies, guard by guard: the causes in document 01's order, and at last the result.
-use mathlib.Core.Path.{_≡_, refl}
-use mathlib.Core.Bool.{Bool, true, false, not, cond, _&&_}
-use Prim.Native.Nat.{ℕ}
+-- What take answers, check by check; and what holds after take and close.
+use mathlib.Core.Path.{_≡_, refl, subst, _∙_}
+use mathlib.Core.Bool.{true, false, not}
 use lib.Dec.{leb, ltb}
+use borrow.Author.Tests.{not-true}
 use Rattle.declare.specs.declared.Event.{Event}
-use Rattle.declare.specs.declared.Table.{Table}
 use Rattle.declare.specs.declared.Refusal.{Refusal}
-use Rattle.declare.specs.declared.Refusal.the-variants.{OutOfRange, TimeFalls, TooMany, WrongPhase, NotFound, InvalidRecord}
+use Rattle.declare.specs.Limits.{mostEvents}
 use Rattle.declare.specs.Events.{wellFormed}
-use Rattle.declare.specs.Rules.{validTable}
-use Rattle.declare.specs.Continuations.{horizon}
-use Rattle.declare.specs.Steps.{capacity}
-use Rattle.declare.specs.Refusals.{number, number-and-line, numberOf, hasLine, returned}
-use Rattle.judge.specs.Cells.{standingIn}
+use Rattle.declare.specs.Refusals.{numberOf}
+use Rattle.declare.specs.Answers.{Answer, accepted, refused, _>>_, require, isAccepted, afterCall}
+use Rattle.declare.specs.Steps.{admits}
+use Rattle.declare.proofs.Answers.{of-of, required, then-value, after-cases}
 use Rattle.run.specs.declared.Run.{Run}
 use Rattle.run.specs.declared.Step.{Step}
-use Rattle.run.specs.declared.Answer.the-variants.{Done, Refused}
-use Rattle.run.specs.Replies.{Reply, accepted, refused, refusedFor, stepReply, replyOf, runAfter}
-use Rattle.run.specs.Records.{eventsOf, validRun}
-use Rattle.run.specs.Start.{newRun, startOf}
+use Rattle.run.specs.declared.Outcome.the-variants.{Done, Refused}
+use Rattle.run.specs.Answers.{runAnswer, stepAnswer}
+use Rattle.run.specs.Records.{horizonOf, validRun}
 use Rattle.run.specs.Take.{appended, judgedRun, takeOf}
 use Rattle.run.specs.Close.{closedRun, closeOf}
-use Rattle.run.specs.Queries.{oneOf, standingOf, totalsBy, totalsOf}
 
 -- ---- a step's answer, and the run beside it
 
-pub refuses : {s : Step} {r : Run} {cause : Refusal} {reply : Reply Run} → s ≡ record { answer = Refused cause; run = r } → reply ≡ refusedFor cause → (replyOf s ≡ reply) × (s .run ≡ runAfter r reply)
-unfolding runAfter stepReply refusedFor
+pub refuses : {s : Step} {r : Run} {cause : Refusal} {answer : Answer Run} → s ≡ record { outcome = Refused cause; run = r } → answer ≡ refused (numberOf cause) → (stepAnswer s ≡ answer) × (s .run ≡ afterCall r answer)
+unfolding afterCall runAnswer
 refuses e h = rw (e, h) (refl, refl)
 
-pub accepts : (r : Run) {s : Step} {next : Run} {reply : Reply Run} → s ≡ record { answer = Done; run = next } → reply ≡ accepted next → (replyOf s ≡ reply) × (s .run ≡ runAfter r reply)
-unfolding runAfter stepReply
+pub accepts : (r : Run) {s : Step} {next : Run} {answer : Answer Run} → s ≡ record { outcome = Done; run = next } → answer ≡ accepted next → (stepAnswer s ≡ answer) × (s .run ≡ afterCall r answer)
+unfolding afterCall runAnswer
 accepts r e h = rw (e, h) (refl, refl)
-
--- ---- start
-
-pub start-invalid : (t : Table) → validTable t ≡ false → startOf t ≡ refusedFor InvalidRecord
-unfolding startOf refusedFor returned hasLine numberOf
-start-invalid t v = rw v
-
-pub start-accepted : (t : Table) → validTable t ≡ true → startOf t ≡ accepted (newRun t)
-unfolding startOf
-start-accepted t v = rw v
 
 -- ---- take
 
 module _ (r : Run) (e : Event) where
-  pub take-invalid : validRun r ≡ false → takeOf r e ≡ refusedFor InvalidRecord
-  unfolding takeOf refusedFor returned hasLine numberOf
+  pub take-invalid : validRun r ≡ false → takeOf r e ≡ refused 11
+  unfolding takeOf _>>_ require
   take-invalid v = rw v
 
   module _ (v : validRun r ≡ true) where
-    pub take-closed : r .closed ≡ true → takeOf r e ≡ refusedFor WrongPhase
-    unfolding takeOf refusedFor returned hasLine numberOf
+    pub take-closed : r .closed ≡ true → takeOf r e ≡ refused 9
+    unfolding takeOf _>>_ require
     take-closed c = rw (v, c)
 
     module _ (c : r .closed ≡ false) where
-      pub take-out-of-range : wellFormed e ≡ false → takeOf r e ≡ refusedFor OutOfRange
-      unfolding takeOf refusedFor returned hasLine numberOf
-      take-out-of-range w = rw (v, w, c)
+      -- then the event decides
+      pub take-by : takeOf r e ≡ (admits (r .count) (horizonOf r) e >> accepted (judgedRun (appended r e)))
+      unfolding takeOf _>>_ require
+      take-by = rw (v, c)
+
+      pub take-out-of-range : wellFormed e ≡ false → takeOf r e ≡ refused 3
+      unfolding admits _>>_ require
+      take-out-of-range w = take-by ∙ rw w
 
       module _ (w : wellFormed e ≡ true) where
-        pub take-falls : ltb (e .time) (horizon (eventsOf r)) ≡ true → takeOf r e ≡ refusedFor TimeFalls
-        unfolding takeOf refusedFor returned hasLine numberOf
-        take-falls f = rw (v, w, f, c)
+        pub take-falls : leb (horizonOf r) (e .time) ≡ false → takeOf r e ≡ refused 7
+        unfolding admits _>>_ require
+        take-falls f = take-by ∙ rw (w, f)
 
-        module _ (f : ltb (e .time) (horizon (eventsOf r)) ≡ false) where
-          pub take-full : leb capacity (r .count) ≡ true → takeOf r e ≡ refusedFor TooMany
-          unfolding takeOf refusedFor returned hasLine numberOf
-          take-full n = rw (v, w, f, n, c)
+        module _ (f : leb (horizonOf r) (e .time) ≡ true) where
+          pub take-full : ltb (r .count) mostEvents ≡ false → takeOf r e ≡ refused 8
+          unfolding admits _>>_ require
+          take-full n = take-by ∙ rw (w, f, n)
 
-          pub take-accepted : leb capacity (r .count) ≡ false → takeOf r e ≡ accepted (judgedRun (appended r e))
-          unfolding takeOf
-          take-accepted n = rw (v, w, f, n, c)
+          pub take-accepted : ltb (r .count) mostEvents ≡ true → takeOf r e ≡ accepted (judgedRun (appended r e))
+          unfolding admits _>>_ require
+          take-accepted n = take-by ∙ rw (w, f, n)
 
--- its tests as a function of their outcomes, and of the run that it accepts with
-abbrev pub takeBy : (valid closed well falls full : Bool) → Run → Reply Run
-takeBy valid closed well falls full next =
-    cond (not valid) (refused (number 11))
-    (cond closed (refused (number 9))
-    (cond (not well) (refused (number-and-line 3 0))
-    (cond falls (refused (number-and-line 7 0)) (cond full (refused (number-and-line 8 0)) (accepted next)))))
+-- what an accepted take says
+pub record Taken (r : Run) (e : Event) (next : Run) : Type 0 where
+  pub valid : validRun r ≡ true
+  pub running : r .closed ≡ false
+  pub admitted : isAccepted (admits (r .count) (horizonOf r) e) ≡ true
+  pub next-is : judgedRun (appended r e) ≡ next
+
+pub taken-by : (r : Run) (e : Event) (next : Run) → takeOf r e ≡ accepted next → Taken r e next
+unfolding takeOf
+taken-by r e next h =
+    let v = required (validRun r) 11 _ next h in
+    let c = required (not (r .closed)) 9 _ next (v .1) in
+    let t = then-value (admits (r .count) (horizonOf r) e) (judgedRun (appended r e)) next (c .1) in
+    record { valid = v .0; running = not-true (r .closed) (c .0); admitted = t .0; next-is = t .1 }
 
 -- what holds of the run before, and of the next one where the take is accepted, holds after it
-pub take-cases : (P : Run → Type 0) (r : Run) (e : Event) → P r → (r .closed ≡ false → wellFormed e ≡ true → ltb (e .time) (horizon (eventsOf r)) ≡ false → leb capacity (r .count) ≡ false → P (judgedRun (appended r e))) → P (runAfter r (takeOf r e))
-unfolding takeOf runAfter
-take-cases P r e before next = go (validRun r) (r .closed) refl (wellFormed e) refl (ltb (e .time) (horizon (eventsOf r))) refl (leb capacity (r .count)) refl
-  where
-    go : (v c : Bool) → r .closed ≡ c → (w : Bool) → wellFormed e ≡ w → (f : Bool) → ltb (e .time) (horizon (eventsOf r)) ≡ f → (n : Bool) → leb capacity (r .count) ≡ n → P (runAfter r (takeBy v c w f n (judgedRun (appended r e))))
-    go false c p w q f x n y = before
-    go true true p w q f x n y = before
-    go true false p false q f x n y = before
-    go true false p true q true x n y = before
-    go true false p true q false x true y = before
-    go true false p true q false x false y = next p q x y
+pub take-cases : (P : Run → Type 0) (r : Run) (e : Event) → P r → (r .closed ≡ false → isAccepted (admits (r .count) (horizonOf r) e) ≡ true → P (judgedRun (appended r e))) → P (afterCall r (takeOf r e))
+take-cases P r e before next =
+    after-cases P r (takeOf r e) before
+    (λ s h. let t = taken-by r e s h in subst P (t .next-is) (next (t .running) (t .admitted)))
 
--- ---- close
-
-pub close-cases : (P : Run → Type 0) (r : Run) → P r → P (closedRun r) → P (runAfter r (closeOf r))
-unfolding closeOf runAfter
-close-cases P r before next = go (validRun r) (r .closed)
-  where
-    go : (v c : Bool) → P (runAfter r (cond (not v) (refused (number 11)) (cond c (refused (number 9)) (accepted (closedRun r)))))
-    go false c = before
-    go true true = before
-    go true false = next
-
-module _ (r : Run) where
-  pub close-invalid : validRun r ≡ false → closeOf r ≡ refusedFor InvalidRecord
-  unfolding closeOf refusedFor returned hasLine numberOf
-  close-invalid v = rw v
-
-  pub close-closed : validRun r ≡ true → r .closed ≡ true → closeOf r ≡ refusedFor WrongPhase
-  unfolding closeOf refusedFor returned hasLine numberOf
-  close-closed v c = rw (v, c)
-
-  pub close-accepted : validRun r ≡ true → r .closed ≡ false → closeOf r ≡ accepted (closedRun r)
-  unfolding closeOf
-  close-accepted v c = rw (v, c)
-
--- ---- standing and totals
-
-module _ (r : Run) (rule position : ℕ) where
-  pub standing-invalid : validRun r ≡ false → standingOf r rule position ≡ refusedFor InvalidRecord
-  unfolding standingOf refusedFor returned hasLine numberOf
-  standing-invalid v = rw v
-
-  pub standing-missing : validRun r ≡ true → (oneOf (r .table .count) rule && oneOf (r .count) position) ≡ false → standingOf r rule position ≡ refusedFor NotFound
-  unfolding standingOf refusedFor returned hasLine numberOf
-  standing-missing v n = rw (v, n)
-
-  pub standing-accepted : validRun r ≡ true → (oneOf (r .table .count) rule && oneOf (r .count) position) ≡ true → standingOf r rule position ≡ accepted (standingIn (r .cells) rule position)
-  unfolding standingOf
-  standing-accepted v n = rw (v, n)
-
-module _ (r : Run) (rule : ℕ) where
-  pub totals-invalid : validRun r ≡ false → totalsOf r rule ≡ refusedFor InvalidRecord
-  unfolding totalsOf refusedFor returned hasLine numberOf
-  totals-invalid v = rw v
-
-  pub totals-missing : validRun r ≡ true → oneOf (r .table .count) rule ≡ false → totalsOf r rule ≡ refusedFor NotFound
-  unfolding totalsOf refusedFor returned hasLine numberOf
-  totals-missing v n = rw (v, n)
-
-  pub totals-accepted : validRun r ≡ true → oneOf (r .table .count) rule ≡ true → totalsOf r rule ≡ accepted (totalsBy (standingIn (r .cells) rule) (r .count))
-  unfolding totalsOf
-  totals-accepted v n = rw (v, n)
+pub close-cases : (P : Run → Type 0) (r : Run) → P r → P (closedRun r) → P (afterCall r (closeOf r))
+unfolding closeOf
+close-cases P r before next =
+    after-cases P r (closeOf r) before
+    (λ s h.
+    let v = required (validRun r) 11 _ s h in
+    let c = required (not (r .closed)) 9 _ s (v .1) in
+    subst P (of-of (c .1)) next)

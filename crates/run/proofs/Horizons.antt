@@ -5,24 +5,24 @@ use mathlib.Core.List.{List, [], _∷_, _++_}
 use Prim.Native.Nat.{ℕ, suc, _+_, _-_, _≤_, _<_, zero-le}
 use native.Mathlib.Numerals.{add-one}
 use native.Mathlib.Omega.{arith}
-use lib.Dec.{ltb}
+use lib.Dec.{leb}
 use lib.ListN.{length, getD, take, set}
-use borrow.Author.Tests.{lt-ltb, le-ltb}
+use borrow.Author.Tests.{lt-leb, le-leb}
 use lib.Seq.{take-suc, take-suc-set}
 use Rattle.declare.specs.declared.Event.{Event}
 use Rattle.declare.specs.Events.{lastFrom, lastTime, noEvent}
 use Rattle.declare.specs.Continuations.{horizon}
-use Rattle.judge.specs.declared.Cell.{Cell}
+use Rattle.standings.specs.declared.Cell.{Cell}
 use Rattle.judge.specs.Cells.{judgedCells}
 use Rattle.run.specs.declared.Run.{Run}
-use Rattle.run.specs.Records.{eventsOf}
+use Rattle.run.specs.Records.{eventsOf, horizonOf, withStandings}
 use Rattle.run.specs.Take.{appended, judgedRun}
-use Rattle.run.proofs.Lists.{last-more}
+use Rattle.declare.proofs.Lists.{last-more}
 
 module _ (r : Run) (e : Event) where
   -- ---- whether the event's time is below the last taken
 
-  horizon-last : 0 < r .count → r .count ≤ length (r .events) → horizon (eventsOf r) ≡ (getD (r .events) (r .count - 1) noEvent) .time
+  horizon-last : 0 < r .count → r .count ≤ length (r .events) → horizonOf r ≡ (getD (r .events) (r .count - 1) noEvent) .time
   unfolding horizon eventsOf
   horizon-last a b =
       let n : r .count ≡ suc (r .count - 1) = omega arith in
@@ -30,15 +30,15 @@ module _ (r : Run) (e : Event) where
       ∙ ap lastTime (take-suc (r .events) (r .count - 1) noEvent (omega arith))
       ∙ last-more (take (r .count - 1) (r .events)) (getD (r .events) (r .count - 1) noEvent)
 
-  pub falls : 0 < r .count → r .count ≤ length (r .events) → e .time < (getD (r .events) (r .count - 1) noEvent) .time → ltb (e .time) (horizon (eventsOf r)) ≡ true
-  falls a b h = rw (horizon-last a b) (lt-ltb (e .time) ((getD (r .events) (r .count - 1) noEvent) .time) h)
+  pub falls : 0 < r .count → r .count ≤ length (r .events) → e .time < (getD (r .events) (r .count - 1) noEvent) .time → leb (horizonOf r) (e .time) ≡ false
+  falls a b h = rw (horizon-last a b) (lt-leb _ (e .time) h)
 
-  pub follows : 0 < r .count → r .count ≤ length (r .events) → (getD (r .events) (r .count - 1) noEvent) .time ≤ e .time → ltb (e .time) (horizon (eventsOf r)) ≡ false
-  follows a b h = rw (horizon-last a b) (le-ltb (e .time) ((getD (r .events) (r .count - 1) noEvent) .time) h)
+  pub follows : 0 < r .count → r .count ≤ length (r .events) → (getD (r .events) (r .count - 1) noEvent) .time ≤ e .time → leb (horizonOf r) (e .time) ≡ true
+  follows a b h = rw (horizon-last a b) (le-leb _ (e .time) h)
 
-  pub follows-none : r .count ≤ 0 → ltb (e .time) (horizon (eventsOf r)) ≡ false
+  pub follows-none : r .count ≤ 0 → leb (horizonOf r) (e .time) ≡ true
   unfolding horizon eventsOf lastTime lastFrom
-  follows-none h = let n : r .count ≡ 0 = omega arith in rw n (le-ltb (e .time) 0 zero-le)
+  follows-none h = let n : r .count ≡ 0 = omega arith in rw n (le-leb 0 (e .time) zero-le)
 
   -- ---- the run with the event
 
@@ -47,17 +47,14 @@ module _ (r : Run) (e : Event) where
     unfolding eventsOf appended
     events-appended = rw add-one (take-suc-set (r .events) (r .count) e room)
 
-    pub horizon-appended : horizon (eventsOf (appended r e)) ≡ e .time
+    horizon-appended : horizonOf (appended r e) ≡ e .time
     unfolding horizon
     horizon-appended = ap lastTime events-appended ∙ last-more (eventsOf r) e
 
     -- judged with the event's time as the horizon
-    pub judged-appended : {cells : List Cell} → cells ≡ judgedCells true (r .table .rules) (r .table .count) (set (r .events) (r .count) e) (r .count + 1) (e .time) (r .cells) → record { closed = r .closed; table = r .table; count = r .count + 1; events = set (r .events) (r .count) e; cells = cells } ≡ judgedRun (appended r e)
+    pub judged-appended : {cells : List Cell} → cells ≡ judgedCells true (r .table) (set (r .events) (r .count) e) (r .count + 1) (e .time) (r .cells) → withStandings (appended r e) cells ≡ judgedRun (appended r e)
     unfolding judgedRun appended
-    judged-appended h = ap with-cells (h ∙ ap judged (sym horizon-appended))
+    judged-appended h = ap (withStandings (appended r e)) (h ∙ ap judged (sym horizon-appended))
       where
-        with-cells : List Cell → Run
-        with-cells cells = record { closed = r .closed; table = r .table; count = r .count + 1; events = set (r .events) (r .count) e; cells = cells }
-
         judged : ℕ → List Cell
-        judged h = judgedCells true (r .table .rules) (r .table .count) (set (r .events) (r .count) e) (r .count + 1) h (r .cells)
+        judged h = judgedCells true (r .table) (set (r .events) (r .count) e) (r .count + 1) h (r .cells)

@@ -2,7 +2,7 @@
 -- of each, and a change of all cells changes the cell of each rule and position as it should.
 use mathlib.Core.Path.{_≡_, refl, sym, ap, _∙_}
 use mathlib.Core.Logic.{⊎-elim, inl, inr}
-use mathlib.Core.Bool.{Bool, true, false, not, cond, _&&_, and-false}
+use mathlib.Core.Bool.{Bool, true, false, not, _&&_, and-false}
 use mathlib.Core.List.{List}
 use Prim.Native.Nat.{ℕ, _+_, _-_, _≤_, _<_}
 use native.Mathlib.Omega.{arith}
@@ -12,33 +12,38 @@ use lib.ListN.{length, getD, take, length-set, length-replicate, getD-replicate}
 use lib.Seq.{length-take-le, getD-take, getD-set-same, getD-set-other}
 use Rattle.declare.specs.declared.Event.{Event}
 use Rattle.declare.specs.declared.Table.{Table}
+use Rattle.declare.specs.declared.Polarity.{Polarity}
 use Rattle.declare.specs.declared.Standing.{Standing}
 use Rattle.declare.specs.declared.Standing.the-variants.{Idle, Open, Fulfilled, Violated}
 use Rattle.declare.specs.Lists.{all}
+use Rattle.declare.specs.Limits.{mostRules, mostEvents}
 use Rattle.declare.specs.Events.{wellFormed, nonFalling, noEvent, eventAt, emptySlot}
-use Rattle.declare.specs.Rules.{noRule, validTable}
-use Rattle.declare.specs.Continuations.{horizon}
+use Rattle.declare.specs.Rules.{noRule, ruleAt, validTable}
+use Rattle.declare.specs.Slots.{padded, eventSlots, tableOf, emptyTable}
+use Rattle.declare.specs.Templates.{polarityOf}
+use Rattle.declare.specs.Verdicts.{decided}
 use Rattle.declare.specs.Standings.{isOpen}
-use Rattle.declare.specs.Steps.{carried, closed, capacity}
+use Rattle.declare.specs.Answers.{_>>_, require, afterCall}
+use Rattle.declare.specs.Steps.{carried, closing, closed}
 use Rattle.declare.specs.Words.{NeverFall}
-use Rattle.declare.proofs.Booleans.{both, both₃, and₃}
-use Rattle.declare.proofs.Sweeps.{length-map-from}
-use Rattle.declare.proofs.Words.{words as verdict-words}
-use Rattle.judge.specs.declared.Cell.{Cell}
-use Rattle.judge.specs.Cells.{idleCell, placeOf, standingIn, inUse, judged, judgedCells}
+use Rattle.declare.proofs.Booleans.{both₃, and₃}
+use Rattle.declare.proofs.Words.{positive, negative, words as verdict-words}
+use Rattle.declare.proofs.Lists.{all-taken, all-each, each-all}
+use Rattle.standings.specs.declared.Cell.{Cell}
+use Rattle.standings.specs.Places.{places, idleCell, placeOf, standingFrom, standingIn, inUse}
+use Rattle.standings.proofs.Places.{in-use}
+use Rattle.standings.proofs.Changes.{idle-standing, idle-everywhere}
 use Rattle.run.specs.declared.Run.{Run}
-use Rattle.run.specs.Records.{eventsOf, ruleAt, validEvents, validStanding, validAt, validRun, Sized}
-use Rattle.run.specs.Replies.{runAfter}
-use Rattle.run.specs.Start.{newRun, startOf, emptyTable, started}
+use Rattle.run.specs.Records.{eventsOf, standingAt, validEvents, validStanding, validAt, validRun, Sized}
+use Rattle.run.specs.Start.{newRun, startOf, started}
 use Rattle.run.specs.Take.{appended, judgedRun}
-use Rattle.run.specs.Close.{closedAt, closedCells, closedRun}
-use Rattle.run.specs.Words.{Events, MayStand, Valid, Placed, standingAt, Starts, NoRules, Appends, InUse, NotInUse, standingNow, Judges, codeAt, Closes, Words}
+use Rattle.run.specs.Close.{closedRun, finishedRun}
+use Rattle.run.specs.Words.{Events, MayStand, Valid, Placed, Starts, NoRules, Appends, InUse, NotInUse, standingNow, KeepsRest, Judges, codeAt, Closes, Finishes, Words}
 use Rattle.run.proofs.Bounds.{valid-parts}
-use Rattle.run.proofs.Codes.{closing-by-code}
-use Rattle.run.proofs.Lists.{all-taken, all-each, each-all}
-use Rattle.run.proofs.Places.{in-use, judged-standing, judged-kept, closed-standing, closed-kept, standings-each, each-standings}
-use Rattle.run.proofs.Takes.{closed-decided}
-use Rattle.run.proofs.Validity.{at-valid, at-idle, taken-valid, past-valid, idle-cells}
+use Rattle.run.proofs.Places.{judged-length, closed-length, judged-standing, judged-kept, closed-standing, closed-kept, standings-each, each-standings}
+use Rattle.run.proofs.Closing.{closed-decided}
+use Rattle.run.proofs.Grown.{finished-length, finished-idle, finished-verdict}
+use Rattle.run.proofs.Validity.{at-valid, at-idle, taken-valid, past-valid, started-valid, take-valid, close-valid}
 
 -- ---- the events of a record
 
@@ -105,7 +110,7 @@ module _ (over : Bool) (count i : ℕ) where
 
 -- ---- the record
 
-events-are : (r : Run) → Sized r → r .count ≤ 256 → Events r (eventsOf r)
+events-are : (r : Run) → Sized r → r .count ≤ mostEvents → Events r (eventsOf r)
 unfolding eventsOf
 events-are r size most =
     let room : r .count ≤ length (r .events) = omega (arith, most, size .events) in
@@ -116,58 +121,58 @@ unfolding validEvents
 valid→ r size v =
     let p = valid-parts r v in
     let room : r .count ≤ length (r .events) = omega (arith, p .events-fit, size .events) in
-    let e : (leb (r .count) capacity ≡ true) × (all wellFormed (take (r .count) (r .events)) ≡ true) × (nonFalling (take (r .count) (r .events)) ≡ true) = and₃ (p .events) in
+    let e : (leb (r .count) mostEvents ≡ true) × (all wellFormed (take (r .count) (r .events)) ≡ true) × (nonFalling (take (r .count) (r .events)) ≡ true) = and₃ (p .events) in
     record {
       table = p .table;
       most = p .events-fit;
       formed = formed→ (r .events) (r .count) room (e .1);
       order = order→ (r .events) (r .count) room (e .2);
-      standings = λ k i a b c d. may→ (r .closed) (r .count) i (standingIn (r .cells) k i) (standings-each (r .closed) (r .table .count) (r .count) (r .cells) (p .standings) k i a b c d);
+      standings = λ k i a b c d. may→ (r .closed) (r .count) i (standingAt r k i) (standings-each (r .closed) (r .table .count) (r .count) (r .cells) (p .standings) k i a b c d);
     }
 
 valid← : (r : Run) → Sized r → Valid r → validRun r ≡ true
-unfolding validRun validEvents capacity
+unfolding validRun validEvents
 valid← r size v =
     let room : r .count ≤ length (r .events) = omega (arith, v .most, size .events) in
     both₃ (v .table)
-    (both₃ (le-leb (r .count) 256 (v .most)) (formed← (r .events) (r .count) room (v .formed)) (order← (r .events) (r .count) room (v .order)))
-    (each-standings (r .closed) (r .table .count) (r .count) (r .cells) (λ k i a b c d. may← (r .closed) (r .count) i (standingIn (r .cells) k i) (v .standings k i a b c d)))
+    (both₃ (le-leb (r .count) mostEvents (v .most)) (formed← (r .events) (r .count) room (v .formed)) (order← (r .events) (r .count) room (v .order)))
+    (each-standings (r .closed) (r .table .count) (r .count) (r .cells) (λ k i a b c d. may← (r .closed) (r .count) i (standingAt r k i) (v .standings k i a b c d)))
 
 -- ---- start
 
 new-starts : (t : Table) → Starts t (newRun t)
-unfolding newRun eventAt emptySlot
+unfolding newRun padded eventAt emptySlot
 new-starts t =
     record {
       phase = refl;
       table = refl;
       count = refl;
-      slots = length-replicate 256 emptySlot;
-      events = λ i a b. getD-replicate 256 (i - 1) emptySlot noEvent (omega arith);
-      cells = length-replicate 4096 idleCell;
-      standings = λ k i p. idle-cells 4096 k i;
+      slots = length-replicate mostEvents emptySlot;
+      events = λ i a b. getD-replicate mostEvents (i - 1) emptySlot noEvent (omega arith);
+      cells = length-replicate places idleCell;
+      standings = λ k i p. idle-everywhere places k i;
     }
 
 starts : (t : Table) → validTable t ≡ true → Starts t (started t)
-unfolding started startOf runAfter
+unfolding started startOf _>>_ require afterCall
 starts t v = rw v (new-starts t)
 
 none-has : NoRules emptyTable
-unfolding emptyTable ruleAt
+unfolding emptyTable tableOf padded ruleAt
 none-has =
     record {
       count = refl;
-      slots = length-replicate 16 noRule;
-      rules = λ k a b. getD-replicate 16 (k - 1) noRule noRule (omega arith);
+      slots = length-replicate mostRules noRule;
+      rules = λ k a b. getD-replicate mostRules (k - 1) noRule noRule (omega arith);
     }
 
 refuses : (t : Table) → validTable t ≡ false → (none : Table) × NoRules none × Starts none (started t)
-unfolding started startOf runAfter
+unfolding started startOf _>>_ require afterCall
 refuses t v = (emptyTable, none-has, rw v (new-starts emptyTable))
 
 -- ---- take and close
 
-pub not-used : (r : Run) (k i : ℕ) → NotInUse r k i → inUse (r .table .count) (r .count) (placeOf k i) ≡ false
+not-used : (r : Run) (k i : ℕ) → NotInUse r k i → inUse (r .table .count) (r .count) (placeOf k i) ≡ false
 not-used r k i u =
     in-use k i (u .0 .0) (u .0 .2) (u .0 .3) (r .table .count) (r .count)
     ∙ ⊎-elim (λ l. ap (λ (t : Bool). t && leb i (r .count)) (lt-leb k (r .table .count) l))
@@ -175,7 +180,7 @@ not-used r k i u =
     (u .1)
 
 module _ (r : Run) (size : Sized r) where
-  appends : (e : Event) → r .count < 256 → Appends r e (appended r e)
+  appends : (e : Event) → r .count < mostEvents → Appends r e (appended r e)
   unfolding appended eventAt
   appends e room =
       record {
@@ -194,35 +199,31 @@ module _ (r : Run) (size : Sized r) where
     within : Placed k i → placeOf k i < length (r .cells)
     within p = omega (arith, size .cells, p .0, p .1, p .2, p .3)
 
-    same-cell : (cells : List Cell) → getD cells (placeOf k i) idleCell ≡ getD (r .cells) (placeOf k i) idleCell → standingIn cells k i ≡ standingAt r k i
-    unfolding standingIn
-    same-cell cells e = ap (λ (c : Cell). c .standing) e
+    same-cell : (next : Run) → getD (next .cells) (placeOf k i) idleCell ≡ getD (r .cells) (placeOf k i) idleCell → standingAt next k i ≡ standingAt r k i
+    unfolding standingIn standingFrom
+    same-cell next e = ap (λ (c : Cell). c .standing) e
 
     -- a cell not in use stays
     judged-rest : NotInUse r k i → standingAt (judgedRun r) k i ≡ standingAt r k i
-    unfolding judgedRun
-    judged-rest u = same-cell _ (judged-kept (r .cells) (placeOf k i) (within (u .0)) true (r .table .rules) (r .table .count) (r .events) (r .count) (horizon (eventsOf r)) (not-used r k i u))
+    judged-rest u = same-cell (judgedRun r) (judged-kept r (placeOf k i) (within (u .0)) (not-used r k i u))
 
     closed-rest : NotInUse r k i → standingAt (closedRun r) k i ≡ standingAt r k i
-    unfolding closedRun
-    closed-rest u = same-cell _ (closed-kept (r .cells) (placeOf k i) (within (u .0)) (r .table) (r .count) (not-used r k i u))
+    closed-rest u = same-cell (closedRun r) (closed-kept r (placeOf k i) (within (u .0)) (not-used r k i u))
 
     -- one in use by what stands there
     judged-from : InUse r k i → {s : Standing} → standingAt r k i ≡ s → standingAt (judgedRun r) k i ≡ carried s (standingNow r k i)
-    unfolding judgedRun judged ruleAt eventsOf
     judged-from u e =
-        judged-standing (r .cells) (size .cells) k i (u .0 .0) (u .0 .1) (u .0 .2) (u .0 .3) true (r .table .rules) (r .table .count) (r .events) (r .count) (horizon (eventsOf r)) (u .1) (u .2)
+        judged-standing r (size .cells) k i (u .0 .0) (u .0 .1) (u .0 .2) (u .0 .3) (u .1) (u .2)
         ∙ ap (λ (s : Standing). carried s (standingNow r k i)) e
 
-    closed-from : InUse r k i → {s : Standing} → standingAt r k i ≡ s → standingAt (closedRun r) k i ≡ closed (ruleAt (r .table) k) s
-    unfolding closedRun
+    closed-from : InUse r k i → {s : Standing} → standingAt r k i ≡ s → standingAt (closedRun r) k i ≡ closed (ruleAt (r .table) k) (eventsOf r) i s
     closed-from u e =
-        closed-standing (r .cells) (size .cells) k i (u .0 .0) (u .0 .1) (u .0 .2) (u .0 .3) (r .table) (r .count) (u .1) (u .2)
-        ∙ ap (closed (ruleAt (r .table) k)) e
+        closed-standing r (size .cells) k i (u .0 .0) (u .0 .1) (u .0 .2) (u .0 .3) (u .1) (u .2)
+        ∙ ap (closed (ruleAt (r .table) k) (eventsOf r) i) e
 
-    closed-open : InUse r k i → standingAt r k i ≡ Open → (t : Bool) → (leb 8 (codeAt r k) && leb (codeAt r k) 12) ≡ t → standingAt (closedRun r) k i ≡ cond t (Fulfilled 0) (Violated 0)
-    unfolding closed
-    closed-open u o t e = closed-from u o ∙ closing-by-code (ruleAt (r .table) k) ∙ ap (λ (b : Bool). cond b (Fulfilled 0) (Violated 0)) e
+    closed-open : InUse r k i → standingAt r k i ≡ Open → {p : Polarity} → polarityOf (ruleAt (r .table) k) ≡ p → standingAt (closedRun r) k i ≡ decided p 0
+    unfolding closed closing
+    closed-open u o e = closed-from u o ∙ ap (λ (p : Polarity). decided p 0) e
 
     closed-other : Placed k i → isOpen (standingAt r k i) ≡ false → standingAt (closedRun r) k i ≡ standingAt r k i
     closed-other p h = go (leb k (r .table .count)) (leb i (r .count)) refl refl
@@ -230,23 +231,20 @@ module _ (r : Run) (size : Sized r) where
         go : (a b : Bool) → leb k (r .table .count) ≡ a → leb i (r .count) ≡ b → standingAt (closedRun r) k i ≡ standingAt r k i
         go true true a b =
             closed-from (p, leb-true k (r .table .count) a, leb-true i (r .count) b) refl
-            ∙ closed-decided (ruleAt (r .table) k) (standingAt r k i) h
+            ∙ closed-decided (ruleAt (r .table) k) (eventsOf r) i (standingAt r k i) h
         go true false a b = closed-rest (p, inr (leb-false i (r .count) b))
         go false b a c = closed-rest (p, inl (leb-false k (r .table .count) a))
+
+  -- the arrays, and what else stays
+  keeps : (next : Run) → next .table ≡ r .table → next .count ≡ r .count → next .events ≡ r .events → length (next .cells) ≡ length (r .cells) → ((k i : ℕ) → NotInUse r k i → standingAt next k i ≡ standingAt r k i) → KeepsRest r next
+  keeps next t n es l f = record { table = t; count = n; events = es; cells = l ∙ size .cells; standings = f }
 
   judges : Judges r (judgedRun r)
   unfolding judgedRun carried
   judges =
       record {
         phase = refl;
-        rest =
-            record {
-              table = refl;
-              count = refl;
-              events = refl;
-              cells = unfold judgedCells in length-map-from _ 0 (r .cells) ∙ size .cells;
-              standings = judged-rest;
-            };
+        rest = keeps (judgedRun r) refl refl refl (judged-length r) judged-rest;
         fulfilled = λ k i j u e. judged-from k i u e;
         violated = λ k i j u e. judged-from k i u e;
         «open» = λ k i u e. judged-from k i u e;
@@ -254,26 +252,37 @@ module _ (r : Run) (size : Sized r) where
       }
 
   closes : Closes r (closedRun r)
-  unfolding closedRun
+  unfolding closedRun decided
   closes =
       record {
         phase = refl;
-        rest =
-            record {
-              table = refl;
-              count = refl;
-              events = refl;
-              cells = unfold closedCells in length-map-from (closedAt (r .table) (r .count)) 0 (r .cells) ∙ size .cells;
-              standings = closed-rest;
-            };
-        violated = λ k i u o a b. closed-open k i u o false (ap (λ (t : Bool). t && leb (codeAt r k) 12) (lt-leb 8 (codeAt r k) (omega arith)));
-        fulfilled = λ k i u o a b. closed-open k i u o true (both (le-leb 8 (codeAt r k) a) (le-leb (codeAt r k) 12 b));
+        rest = keeps (closedRun r) refl refl refl (closed-length r) closed-rest;
+        violated = λ k i u o a b. closed-open k i u o (positive (codeAt r k) a b);
+        fulfilled = λ k i u o a b. closed-open k i u o (negative (codeAt r k) a b);
         others = closed-other;
       }
+
+-- ---- a finished cycle
+
+finishes : (t : Table) (es : List Event) → Finishes t es (finishedRun t (length es) (eventSlots es))
+unfolding newRun finishedRun
+finishes t es =
+    record {
+      phase = refl;
+      table = refl;
+      count = refl;
+      events = refl;
+      cells = finished-length t es;
+      verdicts = λ k i u. finished-verdict t es k i (u .0) (u .1) (u .2);
+      others = λ k i u. idle-standing _ k i (finished-idle t es (placeOf k i) (omega (arith, u .0 .0, u .0 .1, u .0 .2, u .0 .3)) (not-used (finishedRun t (length es) (eventSlots es)) k i u));
+    }
 
 pub words : Words
 words =
     record {
+      started-valid = started-valid;
+      take-valid = take-valid;
+      close-valid = close-valid;
       events = events-are;
       valid = λ r size. (valid→ r size, valid← r size);
       starts = starts;
@@ -281,4 +290,5 @@ words =
       appends = λ r e size room. appends r size e room;
       judges = judges;
       closes = closes;
+      finishes = finishes;
     }

@@ -10,16 +10,18 @@ use Rattle.declare.specs.declared.Event.{Event}
 use Rattle.declare.specs.declared.Rule.{Rule}
 use Rattle.declare.specs.declared.Standing.{Standing}
 use Rattle.declare.specs.declared.Standing.the-variants.{Idle, Open, Fulfilled, Violated}
-use Rattle.declare.specs.Rules.{noRule}
+use Rattle.declare.specs.Rules.{noRule, ruleAt}
+use Rattle.declare.specs.Slots.{eventSlots, tableOf}
 use Rattle.declare.specs.EdgeCycles.{always, window, rule, event}
-use Rattle.judge.specs.declared.Cell.{Cell}
+use Rattle.standings.specs.declared.Cell.{Cell}
+use Rattle.standings.specs.declared.totals.Totals.{Totals}
+use Rattle.standings.specs.Totals.{totalsBy}
 use Rattle.run.specs.declared.Run.{Run}
-use Rattle.run.specs.declared.Totals.{Totals}
-use Rattle.run.specs.Records.{ruleAt, validRun}
+use Rattle.run.specs.Records.{standingAt, validRun}
 use Rattle.run.specs.Start.{started}
 use Rattle.run.specs.Take.{judgedRun}
-use Rattle.run.specs.Close.{closedRun}
-use Rattle.run.specs.Queries.{oneOf, totalsBy}
+use Rattle.run.specs.Close.{closedRun, finishedRun}
+use Rattle.run.specs.Queries.{oneOf}
 
 -- ---- how the cases are written
 
@@ -39,8 +41,8 @@ AsExpected {A} cases = map (λ (c : Case A). c .found) cases ≡ map (λ (c : Ca
 abbrev pub coded : ℕ → Rule
 coded code = rule code 2 (window 0 Never) always
 
--- a record of the first k of these rules and the first n of these events; its first cells have these
--- standings, and it has no others
+-- a record of the first k of these rules and the first n of these events; its first cells have
+-- these standings, and it has no others
 abbrev pub recordOf : Bool → List Rule → ℕ → List Event → ℕ → List Standing → Run
 recordOf closed rules k events n standings =
     record {
@@ -152,6 +154,26 @@ closings =
     ∷ standingsOf (closedRun (ofStandings false 2 1 (replicate 256 Idle ++ (Open ∷ replicate 255 Idle ++ (Open ∷ []))))) is (replicate 256 Idle ++ (Fulfilled 0 ∷ replicate 255 Idle ++ (Open ∷ [])))
     ∷ []
 
+-- ---- a finished cycle
+
+-- response and its negative, over three events: 1, 2, 1
+abbrev pub verdicts : ℕ → ℕ → Standing
+verdicts k i =
+    standingAt (finishedRun (tableOf (coded 2 ∷ coded 9 ∷ [])) 3 (eventSlots (event 0 1 ∷ event 1 2 ∷ event 2 1 ∷ []))) k i
+
+unfoldable pub finished : List (Case Standing)
+finished =
+    verdicts 1 1 is Fulfilled 2
+    ∷ verdicts 1 2 is Idle
+    -- nothing more comes
+    ∷ verdicts 1 3 is Violated 0
+    ∷ verdicts 2 1 is Violated 2
+    ∷ verdicts 2 3 is Fulfilled 0
+    -- past the events and the rules
+    ∷ verdicts 1 4 is Idle
+    ∷ verdicts 3 1 is Idle
+    ∷ []
+
 -- ---- standing and totals
 
 -- "positions, rules and lines count from 1"
@@ -188,5 +210,6 @@ pub record Checked : Type 0 where
   pub of-starts : AsExpected starts
   pub of-takes : AsExpected judgements
   pub of-closings : AsExpected closings
+  pub of-finished : AsExpected finished
   pub of-numbers : AsExpected numbers
   pub of-totals : AsExpected counted

@@ -1,43 +1,44 @@
--- The call close.
-use mathlib.Core.Bool.{Bool, true, not, cond}
+-- The call close; and a finished cycle, closed at once.
+use mathlib.Core.Path.{_≡_}
+use mathlib.Core.Bool.{false, not}
 use mathlib.Core.List.{List}
-use Prim.Native.Nat.{ℕ, _/_}
-use lib.ListN.{getD}
-use Rattle.declare.specs.declared.Rule.{Rule}
+use Prim.Native.Nat.{ℕ}
+use Rattle.declare.specs.declared.Event.{Event}
 use Rattle.declare.specs.declared.Table.{Table}
-use Rattle.declare.specs.Lists.{mapFrom}
-use Rattle.declare.specs.Rules.{noRule}
+use Rattle.declare.specs.declared.Standing.{Standing}
+use Rattle.declare.specs.Rules.{ruleAt}
+use Rattle.declare.specs.Answers.{Answer, accepted, _>>_, require}
 use Rattle.declare.specs.Steps.{closed}
-use Rattle.declare.specs.Refusals.{number}
-use Rattle.judge.specs.declared.Cell.{Cell}
-use Rattle.judge.specs.Cells.{inUse}
+use Rattle.standings.specs.declared.Cell.{Cell}
+use Rattle.standings.specs.Places.{idleCells, changed}
+use Rattle.judge.specs.Cells.{judgedCells}
 use Rattle.run.specs.declared.Run.{Run}
-use Rattle.run.specs.Replies.{Reply, accepted, refused}
-use Rattle.run.specs.Records.{validRun}
+use Rattle.run.specs.Records.{eventsOf, withEvents, withStandings, asClosed, validRun}
+use Rattle.run.specs.Start.{newRun}
 
--- "close turns open into ..; other standings it keeps": a cell of the rule, if it is in use
-unfoldable pub closedCell : Bool → Rule → Cell → Cell
-closedCell used rule c = cond used (record { standing = closed rule (c .standing) }) c
+-- "close turns open into ..; other standings it keeps": what the standing of rule k's position i
+-- becomes
+unfoldable pub closedAt : Table → List Event → ℕ → ℕ → Standing → Standing
+closedAt t es k i s = closed (ruleAt t k) es i s
 
--- the cell at place j
-unfoldable pub closedAt : Table → ℕ → ℕ → Cell → Cell
-closedAt t count j c = closedCell (inUse (t .count) count j) (getD (t .rules) (j / 256) noRule) c
+unfoldable pub closedCells : Table → List Event → ℕ → List Cell → List Cell
+closedCells t es n cells = changed (closedAt t es) (t .count) n cells
 
--- all cells
-unfoldable pub closedCells : Table → ℕ → List Cell → List Cell
-closedCells t count cells = mapFrom (closedAt t count) 0 cells
+-- of the templates there are, whatever the events
+abbrev pub ClosedCells : Table → ℕ → List Cell → List Cell → Type 0
+ClosedCells t n cells next = (es : List Event) → next ≡ closedCells t es n cells
 
 unfoldable pub closedRun : Run → Run
-closedRun r =
-    record {
-      closed = true;
-      table = r .table;
-      count = r .count;
-      events = r .events;
-      cells = closedCells (r .table) (r .count) (r .cells);
-    }
+closedRun r = asClosed (withStandings r (closedCells (r .table) (eventsOf r) (r .count) (r .cells)))
 
 -- "close: 11, 9"
-unfoldable pub closeOf : Run → Reply Run
-closeOf r =
-    cond (not (validRun r)) (refused (number 11)) (cond (r .closed) (refused (number 9)) (accepted (closedRun r)))
+unfoldable pub closeOf : Run → Answer Run
+closeOf r = do
+  require (validRun r) 11
+  require (not (r .closed)) 9
+  accepted (closedRun r)
+
+-- the closed run of a table and the events of a whole cycle: each standing is judged once
+unfoldable pub finishedRun : Table → ℕ → List Event → Run
+finishedRun t n events =
+    asClosed (withStandings (withEvents (newRun t) n events) (judgedCells false t events n 0 idleCells))

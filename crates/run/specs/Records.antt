@@ -1,36 +1,62 @@
 -- A run's record, and what makes it valid: the causes of 11.
 use mathlib.Core.Path.{_≡_}
-use mathlib.Core.Bool.{Bool, true, false, not, cond, _&&_}
+use mathlib.Core.Bool.{Bool, true, not, cond, _&&_}
 use mathlib.Core.List.{List}
-use Prim.Native.Nat.{ℕ, _+_, _-_}
+use Prim.Native.Nat.{ℕ, _+_}
 use lib.Dec.{leb}
-use lib.ListN.{length, take, getD}
+use lib.ListN.{length, take}
 use Rattle.declare.specs.declared.Event.{Event}
-use Rattle.declare.specs.declared.Rule.{Rule}
-use Rattle.declare.specs.declared.Table.{Table}
 use Rattle.declare.specs.declared.Standing.{Standing}
 use Rattle.declare.specs.declared.Standing.the-variants.{Idle, Open, Fulfilled, Violated}
 use Rattle.declare.specs.Lists.{all, allBelow}
+use Rattle.declare.specs.Limits.{mostRules, mostEvents}
 use Rattle.declare.specs.Events.{wellFormed, nonFalling}
-use Rattle.declare.specs.Rules.{noRule, validTable}
+use Rattle.declare.specs.Rules.{validTable}
 use Rattle.declare.specs.Standings.{isIdle}
-use Rattle.declare.specs.Steps.{capacity}
-use Rattle.judge.specs.declared.Cell.{Cell}
-use Rattle.judge.specs.Cells.{standingIn}
+use Rattle.declare.specs.Continuations.{horizon}
+use Rattle.standings.specs.declared.Cell.{Cell}
+use Rattle.standings.specs.declared.totals.Totals.{Totals}
+use Rattle.standings.specs.Places.{places, standingIn}
+use Rattle.standings.specs.Totals.{totalsBy}
 use Rattle.run.specs.declared.Run.{Run}
+
+-- ---- what a record says
 
 -- the events of a run; "slots past a count are neither checked nor read"
 unfoldable pub eventsOf : Run → List Event
 eventsOf r = take (r .count) (r .events)
 
--- "rules count from 1"
-unfoldable pub ruleAt : Table → ℕ → Rule
-ruleAt t k = getD (t .rules) (k - 1) noRule
+-- the earliest time that a further event may have
+abbrev pub horizonOf : Run → ℕ
+horizonOf r = horizon (eventsOf r)
+
+-- the standing of a rule's position
+abbrev pub standingAt : Run → ℕ → ℕ → Standing
+standingAt r rule position = standingIn (r .cells) rule position
+
+-- of the positions of its events
+abbrev pub totalsIn : Run → ℕ → Totals
+totalsIn r rule = totalsBy (standingAt r rule) (r .count)
+
+-- ---- a record with other events, other standings, or closed
+
+abbrev pub withEvents : Run → ℕ → List Event → Run
+withEvents r count events =
+    record { closed = r .closed; table = r .table; count = count; events = events; cells = r .cells }
+
+abbrev pub withStandings : Run → List Cell → Run
+withStandings r cells =
+    record { closed = r .closed; table = r .table; count = r .count; events = r .events; cells = cells }
+
+abbrev pub asClosed : Run → Run
+asClosed r = record { closed = true; table = r .table; count = r .count; events = r .events; cells = r .cells }
+
+-- ---- valid
 
 -- "record .. outside the limits above, times falling in it": the event count, and the events
 unfoldable pub validEvents : ℕ → List Event → Bool
 validEvents count events =
-    leb count capacity && all wellFormed (take count events) && nonFalling (take count events)
+    leb count mostEvents && all wellFormed (take count events) && nonFalling (take count events)
 
 -- not "a target above its event count", nor "open in a closed run"
 abbrev pub validStanding : Bool → ℕ → Standing → Bool
@@ -45,7 +71,8 @@ validAt closed count i s = cond (leb i count) (validStanding closed count s) (is
 
 -- all positions that a rule has cells for
 unfoldable pub validRow : Bool → ℕ → List Cell → ℕ → Bool
-validRow closed count cells rule = allBelow (λ p. validAt closed count (p + 1) (standingIn cells rule (p + 1))) capacity
+validRow closed count cells rule =
+    allBelow (λ p. validAt closed count (p + 1) (standingIn cells rule (p + 1))) mostEvents
 
 -- the rows of the rules; other rows are not read
 unfoldable pub validStandings : Bool → ℕ → ℕ → List Cell → Bool
@@ -60,6 +87,6 @@ validRun r =
 
 -- the lengths that the types of the code give its arrays
 pub record Sized (r : Run) : Type 0 where
-  pub rules : length (r .table .rules) ≡ 16
-  pub events : length (r .events) ≡ 256
-  pub cells : length (r .cells) ≡ 4096
+  pub rules : length (r .table .rules) ≡ mostRules
+  pub events : length (r .events) ≡ mostEvents
+  pub cells : length (r .cells) ≡ places

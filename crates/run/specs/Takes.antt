@@ -1,38 +1,38 @@
 -- A list of takes from start: the one claim over all of it. Proved as `takes` in proofs/Takes.
 use mathlib.Core.Path.{_≡_}
-use mathlib.Core.Bool.{Bool, true, false, not, cond}
-use mathlib.Core.List.{List, [], _∷_, _++_}
-use Prim.Native.Nat.{ℕ, _+_, _-_, _≤_, _<_}
-use lib.Dec.{leb, ltb}
-use lib.ListN.{length, getD, replicate}
+use mathlib.Core.Bool.{Bool, true, false}
+use mathlib.Core.List.{List, [], _∷_}
+use Prim.Native.Nat.{ℕ, _+_, _≤_, _<_}
+use lib.ListN.{length, getD}
 use Rattle.declare.specs.declared.Event.{Event}
 use Rattle.declare.specs.declared.Rule.{Rule}
 use Rattle.declare.specs.declared.Table.{Table}
 use Rattle.declare.specs.declared.Standing.{Standing}
 use Rattle.declare.specs.Lists.{countBelow}
-use Rattle.declare.specs.Events.{wellFormed, emptySlot}
-use Rattle.declare.specs.Rules.{validTable}
+use Rattle.declare.specs.Limits.{mostRules}
+use Rattle.declare.specs.Rules.{ruleAt, validTable}
+use Rattle.declare.specs.Slots.{eventSlots}
 use Rattle.declare.specs.Suits.{activationAt}
 use Rattle.declare.specs.Verdicts.{verdict}
 use Rattle.declare.specs.Continuations.{horizon}
 use Rattle.declare.specs.Reachability.{standing}
 use Rattle.declare.specs.Standings.{isOpen}
-use Rattle.declare.specs.Steps.{capacity, isTaken, taken}
-use Rattle.declare.specs.Refusals.{number-and-line}
-use Rattle.judge.specs.Cells.{idleCell, standingIn, inUse}
+use Rattle.declare.specs.Answers.{Answer, accepted, _>>_, isAccepted, afterCall}
+use Rattle.declare.specs.Steps.{admits, isTaken, taken}
+use Rattle.standings.specs.declared.totals.Totals.{Totals}
+use Rattle.standings.specs.Places.{places, idleCell, inUse}
+use Rattle.standings.specs.Totals.{totalsBy}
 use Rattle.run.specs.declared.Run.{Run}
-use Rattle.run.specs.declared.Totals.{Totals}
-use Rattle.run.specs.Replies.{Reply, accepted, refused, runAfter}
-use Rattle.run.specs.Records.{ruleAt, validRun}
+use Rattle.run.specs.Records.{standingAt, validRun}
 use Rattle.run.specs.Start.{started}
 use Rattle.run.specs.Take.{appended, judgedRun, takeOf}
 use Rattle.run.specs.Close.{closedRun, closeOf}
-use Rattle.run.specs.Queries.{standingOf, totalsBy, totalsOf}
+use Rattle.run.specs.Queries.{standingOf, totalsOf}
 
 -- "each later one the run that the take before it gave back, after a refusal the same run"
 unfoldable pub afterTakes : Run → List Event → Run
 afterTakes r [] = r
-afterTakes r (e ∷ offered) = afterTakes (runAfter r (takeOf r e)) offered
+afterTakes r (e ∷ offered) = afterTakes (afterCall r (takeOf r e)) offered
 
 -- "the first take gets the run that start gives for the table"
 unfoldable pub grown : Table → List Event → Run
@@ -40,19 +40,21 @@ grown t offered = afterTakes (started t) offered
 
 -- ---- a run by its rules and events
 
--- r has the table t and the events es, under each rule each position stands as `stands` says, and every other cell is idle
+-- r has the table t and the events es, under each rule each position stands as `stands` says, and
+-- every other cell is idle
 pub record RunOf (t : Table) (es : List Event) (over : Bool) (stands : Rule → ℕ → Standing) (r : Run) : Type 0 where
   pub valid : validRun r ≡ true
   pub phase : r .closed ≡ over
   pub table : r .table ≡ t
   pub count : r .count ≡ length es
   -- past the events the slots are as start gave them
-  pub events : r .events ≡ es ++ replicate (capacity - length es) emptySlot
-  pub cells : length (r .cells) ≡ 4096
-  pub standings : (k i : ℕ) → 1 ≤ k → k ≤ t .count → 1 ≤ i → i ≤ length es → standingIn (r .cells) k i ≡ stands (ruleAt t k) i
-  pub idle : (j : ℕ) → j < 4096 → inUse (t .count) (length es) j ≡ false → getD (r .cells) j idleCell ≡ idleCell
+  pub events : r .events ≡ eventSlots es
+  pub cells : length (r .cells) ≡ places
+  pub standings : (k i : ℕ) → 1 ≤ k → k ≤ t .count → 1 ≤ i → i ≤ length es → standingAt r k i ≡ stands (ruleAt t k) i
+  pub idle : (j : ℕ) → j < places → inUse (t .count) (length es) j ≡ false → getD (r .cells) j idleCell ≡ idleCell
 
--- "activations = fulfilled + violated + open, and activations is the number of taken events that fit its activation"
+-- "activations = fulfilled + violated + open, and activations is the number of taken events that
+-- fit its activation"
 pub record Fits (rule : Rule) (es : List Event) (t : Totals) : Type 0 where
   pub sum : t .activations ≡ t .fulfilled + t .violated + t .«open»
   pub activations : t .activations ≡ countBelow (λ p. activationAt rule es (p + 1)) (length es)
@@ -71,29 +73,25 @@ running es rule i = standing rule es (horizon es) i
 abbrev pub finished : List Event → Rule → ℕ → Standing
 finished es rule i = verdict rule es i
 
--- what a take replies after the events es are taken, "from the calls alone": 3, else 7, else 8
-unfoldable pub replyAfter : List Event → Run → Event → Reply Run
-replyAfter es r e =
-    cond (not (wellFormed e)) (refused (number-and-line 3 0))
-    (cond (ltb (e .time) (horizon es)) (refused (number-and-line 7 0))
-    (cond (leb capacity (length es)) (refused (number-and-line 8 0)) (accepted (judgedRun (appended r e)))))
-
-unfoldable pub isAccepted : {A : Type 0} → Reply A → Bool
-isAccepted (accepted a) = true
-isAccepted (refused n) = false
+-- what a take answers after the events es are taken, "from the calls alone"
+unfoldable pub takeAfter : List Event → Run → Event → Answer Run
+takeAfter es r e = do
+  admits (length es) (horizon es) e
+  accepted (judgedRun (appended r e))
 
 -- the run after the takes offered, and every call on it
 pub record Takes (t : Table) (offered : List Event) : Type 0 where
   pub run : RunOf t (taken offered) false (running (taken offered)) (grown t offered)
-  pub reply : (e : Event) → takeOf (grown t offered) e ≡ replyAfter (taken offered) (grown t offered) e
+  pub answer : (e : Event) → takeOf (grown t offered) e ≡ takeAfter (taken offered) (grown t offered) e
   pub takes : (e : Event) → isAccepted (takeOf (grown t offered) e) ≡ isTaken (taken offered) e
   pub answers : Answers t (taken offered) (running (taken offered)) (grown t offered)
   pub close : closeOf (grown t offered) ≡ accepted (closedRun (grown t offered))
   pub closed-run : RunOf t (taken offered) true (finished (taken offered)) (closedRun (grown t offered))
   pub closed-answers : Answers t (taken offered) (finished (taken offered)) (closedRun (grown t offered))
   -- "decided ones kept"
-  pub kept : (rule : Rule) (i : ℕ) → isOpen (running (taken offered) rule i) ≡ false → finished (taken offered) rule i ≡ running (taken offered) rule i
+  pub kept : (rule : Rule) (i : ℕ) → isOpen (running (taken offered) rule i) ≡ false →
+      finished (taken offered) rule i ≡ running (taken offered) rule i
 
 -- for every valid table, in its sixteen slots, and every list of takes
 abbrev pub EveryTakes : Type 0
-EveryTakes = (t : Table) (offered : List Event) → length (t .rules) ≡ 16 → validTable t ≡ true → Takes t offered
+EveryTakes = (t : Table) (offered : List Event) → length (t .rules) ≡ mostRules → validTable t ≡ true → Takes t offered

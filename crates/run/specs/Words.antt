@@ -12,16 +12,19 @@ use Rattle.declare.specs.declared.Table.{Table}
 use Rattle.declare.specs.declared.Standing.{Standing}
 use Rattle.declare.specs.declared.Standing.the-variants.{Idle, Open, Fulfilled, Violated}
 use Rattle.declare.specs.Events.{wellFormed, eventAt}
-use Rattle.declare.specs.Rules.{noRule, validTable}
-use Rattle.declare.specs.Continuations.{horizon}
+use Rattle.declare.specs.Limits.{mostRules, mostEvents}
+use Rattle.declare.specs.Rules.{noRule, ruleAt, validTable}
+use Rattle.declare.specs.Slots.{eventSlots}
+use Rattle.declare.specs.Verdicts.{verdict}
 use Rattle.declare.specs.Reachability.{standing}
 use Rattle.declare.specs.Standings.{isIdle, isOpen}
-use Rattle.judge.specs.Cells.{standingIn}
+use Rattle.declare.specs.Answers.{afterCall}
+use Rattle.standings.specs.Places.{places}
 use Rattle.run.specs.declared.Run.{Run}
-use Rattle.run.specs.Records.{eventsOf, ruleAt, validRun, Sized}
+use Rattle.run.specs.Records.{eventsOf, horizonOf, standingAt, validRun, Sized}
 use Rattle.run.specs.Start.{started}
-use Rattle.run.specs.Take.{appended, judgedRun}
-use Rattle.run.specs.Close.{closedRun}
+use Rattle.run.specs.Take.{appended, judgedRun, takeOf}
+use Rattle.run.specs.Close.{closedRun, closeOf, finishedRun}
 
 -- ---- the record, and 11
 
@@ -44,19 +47,16 @@ pub record MayStand (over : Bool) (count i : ℕ) (s : Standing) : Type 0 where
 -- "record or table outside the limits above, times falling in it, ..": nothing of this
 pub record Valid (r : Run) : Type 0 where
   pub table : validTable (r .table) ≡ true
-  pub most : r .count ≤ 256
+  pub most : r .count ≤ mostEvents
   pub formed : (i : ℕ) → 1 ≤ i → i ≤ r .count → wellFormed (eventAt (r .events) i) ≡ true
   pub order : (i : ℕ) → 1 ≤ i → i < r .count → eventAt (r .events) i .time ≤ eventAt (r .events) (i + 1) .time
-  pub standings : (k i : ℕ) → 1 ≤ k → k ≤ r .table .count → 1 ≤ i → i ≤ 256 → MayStand (r .closed) (r .count) i (standingIn (r .cells) k i)
+  pub standings : (k i : ℕ) → 1 ≤ k → k ≤ r .table .count → 1 ≤ i → i ≤ mostEvents → MayStand (r .closed) (r .count) i (standingAt r k i)
 
 -- ---- start
 
 -- a rule and a position that have a cell
 abbrev pub Placed : ℕ → ℕ → Type 0
-Placed k i = (1 ≤ k) × (k ≤ 16) × (1 ≤ i) × (i ≤ 256)
-
-abbrev pub standingAt : Run → ℕ → ℕ → Standing
-standingAt r k i = standingIn (r .cells) k i
+Placed k i = (1 ≤ k) × (k ≤ mostRules) × (1 ≤ i) × (i ≤ mostEvents)
 
 -- "start copies the table and gives a run not closed, with no events, each event slot at time 0,
 -- activity 1 and blank readings, each standing idle"
@@ -64,16 +64,16 @@ pub record Starts (t : Table) (r : Run) : Type 0 where
   pub phase : r .closed ≡ false
   pub table : r .table ≡ t
   pub count : r .count ≡ 0
-  pub slots : length (r .events) ≡ 256
-  pub events : (i : ℕ) → 1 ≤ i → i ≤ 256 → eventAt (r .events) i ≡ record { time = 0; activity = 1; reading1 = Blank; reading2 = Blank; reading3 = Blank; reading4 = Blank }
-  pub cells : length (r .cells) ≡ 4096
+  pub slots : length (r .events) ≡ mostEvents
+  pub events : (i : ℕ) → 1 ≤ i → i ≤ mostEvents → eventAt (r .events) i ≡ record { time = 0; activity = 1; reading1 = Blank; reading2 = Blank; reading3 = Blank; reading4 = Blank }
+  pub cells : length (r .cells) ≡ places
   pub standings : (k i : ℕ) → Placed k i → standingAt r k i ≡ Idle
 
 -- the table of no rules
 pub record NoRules (t : Table) : Type 0 where
   pub count : t .count ≡ 0
-  pub slots : length (t .rules) ≡ 16
-  pub rules : (k : ℕ) → 1 ≤ k → k ≤ 16 → ruleAt t k ≡ noRule
+  pub slots : length (t .rules) ≡ mostRules
+  pub rules : (k : ℕ) → 1 ≤ k → k ≤ mostRules → ruleAt t k ≡ noRule
 
 -- ---- take and close
 
@@ -82,7 +82,7 @@ pub record Appends (r : Run) (e : Event) (next : Run) : Type 0 where
   pub phase : next .closed ≡ r .closed
   pub table : next .table ≡ r .table
   pub count : next .count ≡ r .count + 1
-  pub slots : length (next .events) ≡ 256
+  pub slots : length (next .events) ≡ mostEvents
   pub event : eventAt (next .events) (r .count + 1) ≡ e
   pub others : (i : ℕ) → 1 ≤ i → (i ≡ r .count + 1 → ⊥) → eventAt (next .events) i ≡ eventAt (r .events) i
   pub cells : next .cells ≡ r .cells
@@ -99,12 +99,12 @@ pub record KeepsRest (r next : Run) : Type 0 where
   pub table : next .table ≡ r .table
   pub count : next .count ≡ r .count
   pub events : next .events ≡ r .events
-  pub cells : length (next .cells) ≡ 4096
+  pub cells : length (next .cells) ≡ places
   pub standings : (k i : ℕ) → NotInUse r k i → standingAt next k i ≡ standingAt r k i
 
 -- what follows "from the events now in the record"
 abbrev pub standingNow : Run → ℕ → ℕ → Standing
-standingNow r k i = standing (ruleAt (r .table) k) (eventsOf r) (horizon (eventsOf r)) i
+standingNow r k i = standing (ruleAt (r .table) k) (eventsOf r) (horizonOf r) i
 
 -- "decided standings (fulfilled or violated) at taken positions are carried over, all others follow
 -- from the events now in the record"
@@ -128,13 +128,29 @@ pub record Closes (r next : Run) : Type 0 where
   pub fulfilled : (k i : ℕ) → InUse r k i → standingAt r k i ≡ Open → 8 ≤ codeAt r k → codeAt r k ≤ 12 → standingAt next k i ≡ Fulfilled 0
   pub others : (k i : ℕ) → Placed k i → isOpen (standingAt r k i) ≡ false → standingAt next k i ≡ standingAt r k i
 
+-- the closed run of a whole cycle: the table, the events, and the verdict at each position under
+-- each rule
+pub record Finishes (t : Table) (es : List Event) (r : Run) : Type 0 where
+  pub phase : r .closed ≡ true
+  pub table : r .table ≡ t
+  pub count : r .count ≡ length es
+  pub events : r .events ≡ eventSlots es
+  pub cells : length (r .cells) ≡ places
+  pub verdicts : (k i : ℕ) → InUse r k i → standingAt r k i ≡ verdict (ruleAt t k) es i
+  pub others : (k i : ℕ) → NotInUse r k i → standingAt r k i ≡ Idle
+
 -- ---- of every run with the slots that the code gives it
 
 pub record Words : Type 0 where
-  pub events : (r : Run) → Sized r → r .count ≤ 256 → Events r (eventsOf r)
+  -- what a call leaves is no cause of 11
+  pub started-valid : (t : Table) → validRun (started t) ≡ true
+  pub take-valid : (r : Run) → Sized r → validRun r ≡ true → (e : Event) → validRun (afterCall r (takeOf r e)) ≡ true
+  pub close-valid : (r : Run) → Sized r → validRun r ≡ true → validRun (afterCall r (closeOf r)) ≡ true
+  pub events : (r : Run) → Sized r → r .count ≤ mostEvents → Events r (eventsOf r)
   pub valid : (r : Run) → Sized r → (validRun r ≡ true) ↔ Valid r
   pub starts : (t : Table) → validTable t ≡ true → Starts t (started t)
   pub refuses : (t : Table) → validTable t ≡ false → (none : Table) × NoRules none × Starts none (started t)
-  pub appends : (r : Run) (e : Event) → Sized r → r .count < 256 → Appends r e (appended r e)
+  pub appends : (r : Run) (e : Event) → Sized r → r .count < mostEvents → Appends r e (appended r e)
   pub judges : (r : Run) → Sized r → Judges r (judgedRun r)
   pub closes : (r : Run) → Sized r → Closes r (closedRun r)
+  pub finishes : (t : Table) (es : List Event) → Finishes t es (finishedRun t (length es) (eventSlots es))

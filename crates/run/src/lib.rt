@@ -1,37 +1,40 @@
 // A running cycle: its record, and the calls start, take, standing, totals and close.
 ghost use mathlib.Core.Path.{_≡_};
-ghost use Rattle.run.specs.declared.Answer.the-variants.{Refused};
+ghost use Rattle.run.specs.declared.Outcome.the-variants.{Refused};
+use declare::EVENTS;
 use declare::Event;
 use declare::Refusal;
 use declare::Standing;
 use declare::Table;
-use judge::Cell;
+use standings::Cell;
+use standings::PLACES;
+use standings::totals::Totals;
 
-mod limits; // limits.rt: the limits of events and rules
-mod record; // record.rt: whether a record is valid
+pub mod record; // record.rt: whether a record is valid
 mod start; // start.rt: start
 mod take; // take.rt: take
 mod close; // close.rt: close
+mod finished; // finished.rt: a finished cycle, closed at once
 mod queries; // queries.rt: standing and totals
 
-// A run: its rules, the first `count` of its event slots, and the standings, 256 cells a rule.
+// A run: its rules, the first `count` of its event slots, and the standings.
 pub struct Run {
     pub closed: bool,
     pub table: Table,
     pub count: usize,
-    pub events: [Event; 256],
-    pub cells: [Cell; 4096],
+    pub events: [Event; EVENTS],
+    pub cells: [Cell; PLACES],
 }
 
-// What start, take and close answer.
-pub enum Answer {
+// Of start, take and close: done, or why not.
+pub enum Outcome {
     Done,
     Refused(Refusal),
 }
 
-// The answer, and beside it the next run; after a refusal the same run.
+// The outcome, and beside it the next run; after a refusal the same run.
 pub struct Step {
-    pub answer: Answer,
+    pub outcome: Outcome,
     pub run: Run,
 }
 
@@ -39,14 +42,6 @@ pub struct Step {
 pub enum StandingAnswer {
     Is(Standing),
     Refused(Refusal),
-}
-
-// How many positions of a rule are not idle, and how many of these are fulfilled, violated and open.
-pub struct Totals {
-    pub activations: u16,
-    pub fulfilled: u16,
-    pub violated: u16,
-    pub open: u16,
 }
 
 // What totals answers.
@@ -58,10 +53,10 @@ pub enum TotalsAnswer {
 impl Run {
     // A call refused: the run stays as it was.
     fn refused(self, cause: Refusal) -> Step
-        ensures { λ r. ⌜ r ≡ record { answer = Refused cause; run = self } ⌝ }
+        ensures { λ r. ⌜ r ≡ record { outcome = Refused cause; run = self } ⌝ }
     {
         Step {
-            answer: Answer::Refused(cause),
+            outcome: Outcome::Refused(cause),
             run: self,
         }
     }

@@ -1,38 +1,23 @@
 // Whether a record is valid: the causes of refusal 11.
 ghost use mathlib.Core.Path.{_≡_};
 ghost use Prim.Native.Nat.{_+_, _≤_};
-ghost use Rattle.declare.specs.Rules.{validTable};
+ghost use Rattle.declare.specs.Limits.{mostRules};
 ghost use Rattle.run.specs.Records.{validEvents, validStanding, validAt, validStandings, validRun};
 use crate::Run;
-use crate::limits::valid_rule;
-use crate::limits::well_formed;
+use declare::EVENTS;
 use declare::Event;
 use declare::Standing;
-use declare::Table;
-use declare::standings::is_idle;
-use judge::Cell;
-
-// Whether the table is valid: its count, and the rules up to it.
-pub fn valid_table(table: Table) -> bool
-    ensures { λ r. ⌜ r ≡ validTable table ⌝ }
-{
-    let count = table.count;
-    if 16 < count {
-        return false;
-    }
-    let mut valid = true;
-    for k in 0..count {
-        let rule = table.rules[k];
-        valid = valid & valid_rule(rule);
-    }
-    valid
-}
+use declare::kind::is_idle;
+use limits::event::well_formed;
+use limits::table::valid_table;
+use standings::Cell;
+use standings::PLACES;
 
 // Whether the first `count` events are well-formed and their times do not fall.
-fn valid_events(count: usize, events: [Event; 256]) -> bool
+fn valid_events(count: usize, events: [Event; EVENTS]) -> bool
     ensures { λ r. ⌜ r ≡ validEvents count events ⌝ }
 {
-    if 256 < count {
+    if EVENTS < count {
         return false;
     }
     let mut valid = true;
@@ -64,7 +49,8 @@ fn valid_standing(closed: bool, count: usize, s: Standing) -> bool
     }
 }
 
-// Whether s may stand at place p of a row, that is at position p + 1: idle may stand anywhere, and most are.
+// Whether s may stand at place p of a row, that is at position p + 1: idle may stand anywhere, and
+// most are.
 fn valid_at(closed: bool, count: usize, p: usize, s: Standing) -> bool
     ensures { λ r. ⌜ r ≡ validAt closed count (p + 1) s ⌝ }
 {
@@ -78,15 +64,15 @@ fn valid_at(closed: bool, count: usize, p: usize, s: Standing) -> bool
 }
 
 // Whether every cell of the first `rules` rows may stand where it does.
-fn valid_standings(closed: bool, rules: usize, count: usize, cells: [Cell; 4096]) -> bool
-    requires { ⌜ rules ≤ 16 ⌝ }
+fn valid_standings(closed: bool, rules: usize, count: usize, cells: [Cell; PLACES]) -> bool
+    requires { ⌜ rules ≤ mostRules ⌝ }
     ensures { λ r. ⌜ r ≡ validStandings closed rules count cells ⌝ }
 {
-    let end = rules * 256;
+    let end = rules * EVENTS;
     for j in 0..end {
         let c = cells[j];
         let s = c.standing;
-        if !valid_at(closed, count, j % 256, s) {
+        if !valid_at(closed, count, j % EVENTS, s) {
             return false;
         }
     }

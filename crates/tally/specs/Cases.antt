@@ -7,15 +7,15 @@ use lib.ListN.{replicate}
 use Rattle.declare.specs.declared.Standing.{Standing}
 use Rattle.declare.specs.declared.Standing.the-variants.{Idle, Open, Fulfilled, Violated}
 use Rattle.declare.specs.declared.Refusal.the-variants.{InvalidRecord, NotFound, WrongPhase, TallyOverflow}
-use Rattle.declare.specs.Refusals.{number}
+use Rattle.declare.specs.Refusals.{numberOf}
+use Rattle.declare.specs.Answers.{Answer, accepted, refused, afterCall}
 use Rattle.run.specs.declared.Run.{Run}
-use Rattle.run.specs.declared.Totals.{Totals}
-use Rattle.run.specs.Replies.{Reply, accepted, refused, refusedFor}
+use Rattle.standings.specs.declared.totals.Totals.{Totals}
 use Rattle.run.specs.Cases.{Case, _is_, AsExpected, ofStandings, totals}
 use Rattle.tally.specs.declared.Tally.{Tally}
-use Rattle.tally.specs.declared.Answer.the-variants as Answer
+use Rattle.tally.specs.declared.Outcome.the-variants as Outcome
 use Rattle.tally.specs.declared.CountedAnswer.the-variants as CountedAnswer
-use Rattle.tally.specs.Tally.{fits, added, countsOf, withCounts, absorbOf, answerReply, countsReply, tallyAfter}
+use Rattle.tally.specs.Tally.{hasRoomFor, added, countsOf, withTotals, absorbOf, tallyAnswer, countedAnswer}
 
 -- cycles, activations, fulfilled, violated
 abbrev pub tally : ℕ → ℕ → ℕ → ℕ → Tally
@@ -27,15 +27,15 @@ tally cycles activations fulfilled violated =
 -- "a tally field would pass 4294967295": each field alone; what is open is no field of a tally
 unfoldable pub limits : List (Case Bool)
 limits =
-    fits (tally 4294967294 0 0 0) (totals 0 0 0 0) is true
-    ∷ fits (tally 4294967295 0 0 0) (totals 0 0 0 0) is false
-    ∷ fits (tally 0 4294967290 0 0) (totals 5 0 0 0) is true
-    ∷ fits (tally 0 4294967290 0 0) (totals 6 0 0 0) is false
-    ∷ fits (tally 0 0 4294967290 0) (totals 0 5 0 0) is true
-    ∷ fits (tally 0 0 4294967290 0) (totals 0 6 0 0) is false
-    ∷ fits (tally 0 0 0 4294967290) (totals 0 0 5 0) is true
-    ∷ fits (tally 0 0 0 4294967290) (totals 0 0 6 0) is false
-    ∷ fits (tally 4294967294 4294967290 4294967290 4294967290) (totals 5 5 5 6) is true
+    hasRoomFor (tally 4294967294 0 0 0) (totals 0 0 0 0) is true
+    ∷ hasRoomFor (tally 4294967295 0 0 0) (totals 0 0 0 0) is false
+    ∷ hasRoomFor (tally 0 4294967290 0 0) (totals 5 0 0 0) is true
+    ∷ hasRoomFor (tally 0 4294967290 0 0) (totals 6 0 0 0) is false
+    ∷ hasRoomFor (tally 0 0 4294967290 0) (totals 0 5 0 0) is true
+    ∷ hasRoomFor (tally 0 0 4294967290 0) (totals 0 6 0 0) is false
+    ∷ hasRoomFor (tally 0 0 0 4294967290) (totals 0 0 5 0) is true
+    ∷ hasRoomFor (tally 0 0 0 4294967290) (totals 0 0 6 0) is false
+    ∷ hasRoomFor (tally 4294967294 4294967290 4294967290 4294967290) (totals 5 5 5 6) is true
     ∷ []
 
 -- "cycles by 1, the others by that rule's totals"
@@ -54,52 +54,52 @@ run closed s =
     ofStandings closed 2 3 (Fulfilled 3 ∷ replicate 255 Idle ++ (Fulfilled 2 ∷ Violated 0 ∷ s ∷ []))
 
 -- "tally: 11, 10, 9": an earlier cause is said before a later one
-unfoldable pub counts : List (Case (Reply Totals))
+unfoldable pub counts : List (Case (Answer Totals))
 counts =
     countsOf (run true (Violated 0)) 1 is accepted (totals 1 1 0 0)
     ∷ countsOf (run true (Violated 0)) 2 is accepted (totals 3 1 2 0)
-    ∷ countsOf (run false Open) 2 is refused (number 9)
-    ∷ countsOf (run true Idle) 0 is refused (number 10)
-    ∷ countsOf (run true Idle) 3 is refused (number 10)
-    ∷ countsOf (run false Idle) 3 is refused (number 10)
-    ∷ countsOf (run true Open) 1 is refused (number 11)
-    ∷ countsOf (run false (Violated 4)) 3 is refused (number 11)
+    ∷ countsOf (run false Open) 2 is refused 9
+    ∷ countsOf (run true Idle) 0 is refused 10
+    ∷ countsOf (run true Idle) 3 is refused 10
+    ∷ countsOf (run false Idle) 3 is refused 10
+    ∷ countsOf (run true Open) 1 is refused 11
+    ∷ countsOf (run false (Violated 4)) 3 is refused 11
     ∷ []
 
 -- "..., 14"
-unfoldable pub absorbed : List (Case (Reply Tally))
+unfoldable pub absorbed : List (Case (Answer Tally))
 absorbed =
-    withCounts (tally 1 20 300 4000) (accepted (totals 5 6 7 8)) is accepted (tally 2 25 306 4007)
-    ∷ withCounts (tally 4294967295 0 0 0) (accepted (totals 0 0 0 0)) is refused (number 14)
-    ∷ withCounts (tally 4294967295 0 0 0) (refused (number 10)) is refused (number 10)
+    withTotals (tally 1 20 300 4000) (totals 5 6 7 8) is accepted (tally 2 25 306 4007)
+    ∷ withTotals (tally 4294967295 0 0 0) (totals 0 0 0 0) is refused 14
+    ∷ absorbOf (run true Idle) 3 (tally 4294967295 0 0 0) is refused 10
     ∷ absorbOf (run true Idle) 2 (tally 6 5 4 3) is accepted (tally 7 7 5 4)
     ∷ []
 
 -- ---- what stands beside an answer
 
 -- "a refusal alters neither run nor tally"
-unfoldable pub after : List (Case Tally)
-after =
-    tallyAfter (tally 1 2 3 4) (accepted (tally 5 6 7 8)) is tally 5 6 7 8
-    ∷ tallyAfter (tally 1 2 3 4) (refused (number 14)) is tally 1 2 3 4
+unfoldable pub afterwards : List (Case Tally)
+afterwards =
+    afterCall (tally 1 2 3 4) (accepted (tally 5 6 7 8)) is tally 5 6 7 8
+    ∷ afterCall (tally 1 2 3 4) (refused 14) is tally 1 2 3 4
     ∷ []
 
 -- an answer of the code has the number of the refusal of that name
-unfoldable pub answers : List (Case (Reply Tally))
+unfoldable pub answers : List (Case (Answer Tally))
 answers =
-    answerReply (tally 1 2 3 4) Answer.Absorbed is accepted (tally 1 2 3 4)
-    ∷ answerReply (tally 1 2 3 4) Answer.InvalidRecord is refusedFor InvalidRecord
-    ∷ answerReply (tally 1 2 3 4) Answer.NotFound is refusedFor NotFound
-    ∷ answerReply (tally 1 2 3 4) Answer.WrongPhase is refusedFor WrongPhase
-    ∷ answerReply (tally 1 2 3 4) Answer.Overflow is refusedFor TallyOverflow
+    tallyAnswer (tally 1 2 3 4) Outcome.Absorbed is accepted (tally 1 2 3 4)
+    ∷ tallyAnswer (tally 1 2 3 4) Outcome.InvalidRecord is refused (numberOf InvalidRecord)
+    ∷ tallyAnswer (tally 1 2 3 4) Outcome.NotFound is refused (numberOf NotFound)
+    ∷ tallyAnswer (tally 1 2 3 4) Outcome.WrongPhase is refused (numberOf WrongPhase)
+    ∷ tallyAnswer (tally 1 2 3 4) Outcome.Overflow is refused (numberOf TallyOverflow)
     ∷ []
 
-unfoldable pub countedAnswers : List (Case (Reply Totals))
+unfoldable pub countedAnswers : List (Case (Answer Totals))
 countedAnswers =
-    countsReply (CountedAnswer.Are (totals 1 2 3 4)) is accepted (totals 1 2 3 4)
-    ∷ countsReply CountedAnswer.InvalidRecord is refusedFor InvalidRecord
-    ∷ countsReply CountedAnswer.NotFound is refusedFor NotFound
-    ∷ countsReply CountedAnswer.WrongPhase is refusedFor WrongPhase
+    countedAnswer (CountedAnswer.Are (totals 1 2 3 4)) is accepted (totals 1 2 3 4)
+    ∷ countedAnswer CountedAnswer.InvalidRecord is refused (numberOf InvalidRecord)
+    ∷ countedAnswer CountedAnswer.NotFound is refused (numberOf NotFound)
+    ∷ countedAnswer CountedAnswer.WrongPhase is refused (numberOf WrongPhase)
     ∷ []
 
 pub record Checked : Type 0 where
@@ -107,6 +107,6 @@ pub record Checked : Type 0 where
   pub of-sums : AsExpected sums
   pub of-counts : AsExpected counts
   pub of-absorbed : AsExpected absorbed
-  pub of-after : AsExpected after
+  pub of-after : AsExpected afterwards
   pub of-answers : AsExpected answers
   pub of-counted-answers : AsExpected countedAnswers

@@ -2,12 +2,16 @@
 ghost use mathlib.Core.Path.{_≡_};
 ghost use Prim.Native.Nat.{_+_};
 ghost use lib.Dec.{leb};
-ghost use Rattle.tally.specs.Tally.{fits, Counts, Absorbs};
-ghost use Rattle.tally.specs.Sums.{summed, answerFor, countedBy};
+ghost use Rattle.tally.specs.Tally.{mostCounted, hasRoomFor, Counts, Absorbs};
+ghost use Rattle.tally.specs.Sums.{summed, countedFor, countedBy};
 use declare::Refusal;
+use declare::number_of;
 use run::Run;
-use run::Totals;
 use run::TotalsAnswer;
+use standings::totals::Totals;
+
+// The most that a field of a tally can count.
+pub const MOST_COUNTED: u64 = 4294967295;
 
 // How many cycles were absorbed, and the sums of their totals.
 pub struct Tally {
@@ -17,8 +21,8 @@ pub struct Tally {
     pub violated: u32,
 }
 
-// What absorbing answers: done, or why not.
-pub enum Answer {
+// Of absorbing: done, or why not.
+pub enum Outcome {
     Absorbed,
     InvalidRecord,
     NotFound,
@@ -26,10 +30,10 @@ pub enum Answer {
     Overflow,
 }
 
-// The answer, and the tally after it; after a refusal the same tally.
+// The outcome, and the tally after it; after a refusal the same tally.
 pub struct Sum {
     pub tally: Tally,
-    pub answer: Answer,
+    pub outcome: Outcome,
 }
 
 fn wide(x: u32) -> u64
@@ -46,13 +50,13 @@ fn number(x: u16) -> u32
 
 // Whether a field can take this many more.
 fn has_room(x: u32, more: u32) -> bool
-    ensures { λ r. ⌜ r ≡ leb (x + more) 4294967295 ⌝ }
+    ensures { λ r. ⌜ r ≡ leb (x + more) mostCounted ⌝ }
 {
-    wide(x) + wide(more) <= 4294967295
+    wide(x) + wide(more) <= MOST_COUNTED
 }
 
-fn all_fit(tally: Tally, totals: Totals) -> bool
-    ensures { λ r. ⌜ r ≡ fits tally totals ⌝ }
+fn has_room_for(tally: Tally, totals: Totals) -> bool
+    ensures { λ r. ⌜ r ≡ hasRoomFor tally totals ⌝ }
 {
     has_room(tally.cycles, 1)
         & has_room(tally.activations, number(totals.activations))
@@ -64,10 +68,10 @@ fn all_fit(tally: Tally, totals: Totals) -> bool
 fn with_totals(tally: Tally, totals: Totals) -> Sum
     ensures { λ r. ⌜ r ≡ summed tally totals ⌝ }
 {
-    if !all_fit(tally, totals) {
+    if !has_room_for(tally, totals) {
         return Sum {
             tally: tally,
-            answer: Answer::Overflow,
+            outcome: Outcome::Overflow,
         };
     }
     let next = Tally {
@@ -78,7 +82,7 @@ fn with_totals(tally: Tally, totals: Totals) -> Sum
     };
     Sum {
         tally: next,
-        answer: Answer::Absorbed,
+        outcome: Outcome::Absorbed,
     }
 }
 
@@ -97,25 +101,13 @@ pub struct Counted {
 }
 
 // The totals refuse an invalid record, or a rule that is not there.
-fn answer_for(cause: Refusal) -> CountedAnswer
-    ensures { λ r. ⌜ r ≡ answerFor cause ⌝ }
+fn counted_for(cause: Refusal) -> CountedAnswer
+    ensures { λ r. ⌜ r ≡ countedFor cause ⌝ }
 {
-    match cause {
-        Refusal::FieldCount => CountedAnswer::InvalidRecord,
-        Refusal::NumberForm => CountedAnswer::InvalidRecord,
-        Refusal::OutOfRange => CountedAnswer::InvalidRecord,
-        Refusal::ComparisonForm => CountedAnswer::InvalidRecord,
-        Refusal::ReadingTwice => CountedAnswer::InvalidRecord,
-        Refusal::EmptyWindow => CountedAnswer::InvalidRecord,
-        Refusal::TimeFalls => CountedAnswer::InvalidRecord,
-        Refusal::TooMany => CountedAnswer::InvalidRecord,
-        Refusal::WrongPhase => CountedAnswer::InvalidRecord,
-        Refusal::NotFound => CountedAnswer::NotFound,
-        Refusal::InvalidRecord => CountedAnswer::InvalidRecord,
-        Refusal::NoLineEnd => CountedAnswer::InvalidRecord,
-        Refusal::NoFile => CountedAnswer::InvalidRecord,
-        Refusal::TallyOverflow => CountedAnswer::InvalidRecord,
+    if number_of(cause) == 10 {
+        return CountedAnswer::NotFound;
     }
+    CountedAnswer::InvalidRecord
 }
 
 fn counted_by(closed: bool, answer: TotalsAnswer) -> CountedAnswer
@@ -128,7 +120,7 @@ fn counted_by(closed: bool, answer: TotalsAnswer) -> CountedAnswer
             }
             CountedAnswer::Are(totals)
         },
-        TotalsAnswer::Refused(cause) => answer_for(cause),
+        TotalsAnswer::Refused(cause) => counted_for(cause),
     }
 }
 
@@ -142,33 +134,34 @@ pub fn counted_of(run: Run, rule: usize) -> Counted
     }
 }
 
-// The tally with the totals of one cycle more, by value. Refused as they are, or with 14, the tally then as it was.
+// The tally with the totals of one cycle more, by value. Refused as they are, or with 14, the tally
+// then as it was.
 pub fn absorbed(tally: Tally, counted: Counted) -> Sum
-    ensures { λ r. ⌜ Absorbs tally counted (r .tally) (r .answer) ⌝ }
+    ensures { λ r. ⌜ Absorbs tally counted (r .tally) (r .outcome) ⌝ }
 {
     let answer = counted.answer;
     match answer {
         CountedAnswer::Are(totals) => with_totals(tally, totals),
         CountedAnswer::InvalidRecord => Sum {
             tally: tally,
-            answer: Answer::InvalidRecord,
+            outcome: Outcome::InvalidRecord,
         },
         CountedAnswer::NotFound => Sum {
             tally: tally,
-            answer: Answer::NotFound,
+            outcome: Outcome::NotFound,
         },
         CountedAnswer::WrongPhase => Sum {
             tally: tally,
-            answer: Answer::WrongPhase,
+            outcome: Outcome::WrongPhase,
         },
     }
 }
 
 // The same in place: absorb(&mut tally, counted_of(run, rule)) absorbs a closed run.
-pub fn absorb(tally: &mut Tally, counted: Counted) -> Answer
+pub fn absorb(tally: &mut Tally, counted: Counted) -> Outcome
     ensures { λ r. ⌜ Absorbs (now (tally .entry)) counted (now (tally .exit)) r ⌝ }
 {
     let s = absorbed(*tally, counted);
     *tally = s.tally;
-    s.answer
+    s.outcome
 }

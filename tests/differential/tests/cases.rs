@@ -1,4 +1,5 @@
-//! The stored cases and the examples: `report` in each folder, compared byte by byte by tests/cases/check.
+//! The stored cases and the examples: `report` in each folder, compared byte by byte by
+//! tests/cases/check.
 use std::path::Path;
 use std::process::Command;
 

@@ -8,7 +8,7 @@ use std::os::unix::fs::symlink;
 use std::path::Path;
 use std::process::Command;
 
-const FORGER: &str = "use run::Totals;
+const FORGER: &str = "use standings::totals::Totals;
 use tally::Counted;
 use tally::CountedAnswer;
 
@@ -34,7 +34,7 @@ fn repository() -> Folder {
         link_all(&here.join(part), &folder.path.join(part));
     }
     let crates = fs::read_to_string(here.join("crates.txt")).expect("crates.txt");
-    let crates = format!("{crates}forger: declare judge run tally\n");
+    let crates = format!("{crates}forger: declare run standings tally\n");
     fs::write(folder.path.join("crates.txt"), crates).expect("crates.txt");
     let source = folder.path.join("crates/forger/src");
     fs::create_dir_all(&source).expect("a folder");

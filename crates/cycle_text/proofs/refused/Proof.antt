@@ -3,13 +3,15 @@ use mathlib.Core.Path.{ap}
 use lib.ListN.{replicate}
 use Prim.Native.Nat.{ℕ}
 use Rattle.cycle_text.specs.Types.{Event, Refusal, Refused, CycleRead}
-use Rattle.cycle_text.specs.Reads.{padded, refusedRead}
+use Rattle.declare.specs.Limits.{mostEvents}
+use Rattle.declare.specs.Slots.{padded}
+use Rattle.cycle_text.specs.Reads.{refusedRead}
 use borrow.Author.Needs.{needs}
 use Rattle.cycle_text.proofs.refused.Statement.{statement}
 use Rattle.cycle_text.proofs.refused.Tie as tie
 
 abbrev readOf : Refusal → ℕ → Event → CycleRead
-readOf cause line slot = record { outcome = Refused cause line; count = 0; events = replicate 256 slot }
+readOf cause line slot = record { outcome = Refused cause line; count = 0; events = replicate mostEvents slot }
 
 empty-slot-requires : tie.Need-empty-slot-requires
 empty-slot-requires c κs = search needs

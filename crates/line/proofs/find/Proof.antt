@@ -1,4 +1,5 @@
--- `line::find`: at each turn the first index in the whole list is that in what is left, as far on as was passed.
+-- `line::find`: at each turn the first index in the whole list is that in what is left, as far on
+-- as was passed.
 use Prim.Native.Nat.{_+_, _-_, _≤_}
 use mathlib.Core.Path.{_≡_}
 use native.Mathlib.Omega.{arith}

@@ -2,10 +2,9 @@
 use mathlib.Core.Path.{sym, _∙_}
 use mir.Syntax.{w32}
 use mir.Facts.{toZ-ofZ}
-use borrow.Author.Needs.{sfits-of}
+use borrow.Author.Needs.{sfits-of, needs}
 use Rattle.line.specs.Values.{integerAnswer, readingRead}
 use Rattle.line.specs.Scans.{readingBy}
-use borrow.Author.Needs.{needs}
 use Rattle.line.proofs.reading_answer.Statement.{statement}
 use Rattle.line.proofs.reading_answer.Tie as tie
 

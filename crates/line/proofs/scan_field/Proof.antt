@@ -1,4 +1,5 @@
--- `line::scan_field`: at each turn the reader, handed what is left of the field, ends as one that is handed the whole field.
+-- `line::scan_field`: at each turn the reader, handed what is left of the field, ends as one that
+-- is handed the whole field.
 use Prim.Native.Nat.{_+_, _-_, _≤_}
 use mathlib.Core.Path.{_≡_}
 use native.Mathlib.Omega.{arith}

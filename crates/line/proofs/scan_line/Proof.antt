@@ -1,4 +1,5 @@
--- `line::scan_line`: at each turn the index of LF, and the separators before it, in the whole text are those found so far and those of what is left.
+-- `line::scan_line`: at each turn the index of LF, and the separators before it, in the whole text
+-- are those found so far and those of what is left.
 use Prim.Native.Nat.{_+_, _-_, _≤_}
 use mathlib.Core.Path.{_≡_}
 use mathlib.Core.Logic.{⊎-elim}

@@ -3,11 +3,6 @@ use Rattle.notebook.proofs.Replies.{rules-refused, rules-accepted}
 use borrow.Author.Needs.{needs}
 use Rattle.notebook.proofs.read_notebook.Statement.{statement}
 use Rattle.notebook.proofs.read_notebook.Tie as tie
-use Rattle.notebook.proofs.read_notebook.Reads as reads
-use Rattle.notebook.proofs.read_notebook.Lts as lts
-use Rattle.notebook.proofs.read_with.Reads as read-with-reads
-use Rattle.notebook.proofs.refused.Reads as refused-reads
-use Rattle.rule_text.proofs.read_rules.Reads as read-rules-reads
 
 -- src/lib.rt:86:9
 read-rules-requires : tie.Need-read-rules-requires

@@ -3,11 +3,6 @@ use Rattle.notebook.proofs.Replies.{cycle-refused, cycle-accepted}
 use borrow.Author.Needs.{needs}
 use Rattle.notebook.proofs.read_with.Statement.{statement}
 use Rattle.notebook.proofs.read_with.Tie as tie
-use Rattle.notebook.proofs.read_with.Reads as reads
-use Rattle.notebook.proofs.read_with.Lts as lts
-use Rattle.cycle_text.proofs.read_cycle.Reads as read-cycle-reads
-use Rattle.notebook.proofs.finished_run.Reads as finished-run-reads
-use Rattle.notebook.proofs.refused.Reads as refused-reads
 
 -- src/lib.rt:67:9
 read-cycle-requires : tie.Need-read-cycle-requires
@@ -26,8 +21,8 @@ enum-told : tie.Need-enum-told
 enum-told c = search needs
 
 -- src/lib.rt:75:22
-finished-run-requires : tie.Need-finished-run-requires
-finished-run-requires c κs = search needs
+finished-requires : tie.Need-finished-requires
+finished-requires c κs = search needs
 
 -- src/lib.rt:64:1
 returns : tie.Need-returns
@@ -40,7 +35,7 @@ returns c =
 returns-2 : tie.Need-returns-2
 returns-2 c =
     let k = c .before .before .before .before in
-    cycle-accepted _ _ (k .read-cycle .result) _ (k .read-cycle .ensures .0) (k .read-cycle .ensures .1 .0) (k .read-cycle .ensures .1 .1) (c .before .before .enum-told .given .1) (c .finished-run .ensures)
+    cycle-accepted _ _ (k .read-cycle .result) _ (k .read-cycle .ensures .0) (k .read-cycle .ensures .1 .0) (k .read-cycle .ensures .1 .1) (c .before .before .enum-told .given .1) (c .finished .ensures)
 
 pub read-with-spec : {M : Type 1} → statement M
 read-with-spec =
@@ -50,6 +45,6 @@ read-with-spec =
     enum-known-outcome
     refused-requires
     enum-told
-    finished-run-requires
+    finished-requires
     returns
     returns-2)

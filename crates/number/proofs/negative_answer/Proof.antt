@@ -1,4 +1,5 @@
--- `number::negative_answer`: of a negative number only the lower end of the range is tested; its magnitude there is 2147483648.
+-- `number::negative_answer`: of a negative number only the lower end of the range is tested; its
+-- magnitude there is 2147483648.
 use native.Mathlib.Omega.{arith}
 use mir.Syntax.{w32}
 use mir.Facts.{sfits-widen}

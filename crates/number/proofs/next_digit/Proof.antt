@@ -1,4 +1,5 @@
--- `number::next_digit` is the step of `pushed` after digits. A digit is 48 to 57, so its value is below 10.
+-- `number::next_digit` is the step of `pushed` after digits. A digit is 48 to 57, so its value is
+-- below 10.
 use mathlib.Core.Path.{sym, _∙_}
 use native.Mathlib.Omega.{arith}
 use Rattle.number.specs.Reader.{pushed}

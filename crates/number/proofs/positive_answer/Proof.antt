@@ -1,4 +1,5 @@
--- `number::positive_answer`: of a number that is not negative only the upper end of the range is tested.
+-- `number::positive_answer`: of a number that is not negative only the upper end of the range is
+-- tested.
 use Rattle.number.proofs.Signed.{up, signed-up, signed-high}
 use borrow.Author.Needs.{needs}
 use Rattle.number.proofs.positive_answer.Statement.{statement}

@@ -10,14 +10,14 @@ Inv-loop state₀ counter₀ state counter = counter ≤ 1000000000000
 abbrev μ-loop : tie.MeasureT-loop
 μ-loop state₀ counter₀ state counter = 1000000000000 - counter
 
+empty-table-requires : tie.Need-empty-table-requires Inv-loop μ-loop
+empty-table-requires c κs = search needs
+
 empty-requires : tie.Need-empty-requires Inv-loop μ-loop
 empty-requires c κs = search needs
 
 empty-requires-2 : tie.Need-empty-requires-2 Inv-loop μ-loop
 empty-requires-2 c κs = search needs
-
-empty-requires-3 : tie.Need-empty-requires-3 Inv-loop μ-loop
-empty-requires-3 c κs = search needs
 
 loop-holds : tie.Need-loop-holds Inv-loop μ-loop
 loop-holds c = search needs
@@ -52,9 +52,9 @@ main-spec =
     (tie.spec
     Inv-loop
     μ-loop
+    empty-table-requires
     empty-requires
     empty-requires-2
-    empty-requires-3
     loop-holds
     slice-aggregate-read-full
     read-full-requires

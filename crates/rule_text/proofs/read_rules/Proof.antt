@@ -1,30 +1,24 @@
--- `read_rules`: at each turn the whole text gives what the lines left give after the rules held.
--- The line in hand refuses the text, or its rule is held and what follows is left.
-use mathlib.Core.Path.{_≡_, refl, _∙_, ap}
+-- `read_rules`: the turns of `line/proofs/Turns`.
+use mathlib.Core.Path.{_≡_, ap}
 use mathlib.Core.List.{List}
-use Prim.Native.Nat.{ℕ, _+_, _-_, _≤_, _<_}
+use Prim.Native.Nat.{_-_, _≤_, _<_}
 use native.Mathlib.Omega.{arith}
-use lib.ListN.{length, take, drop, length-drop, drop-of-length-le}
-use lib.Seq.{drop-drop}
+use lib.ListN.{length, take}
+use Rattle.declare.specs.Limits.{mostRules}
+use Rattle.declare.specs.Rules.{noRule}
 use Rattle.declare.specs.Refusals.{numberOf}
-use Rattle.number.specs.Number.{none}
-use Rattle.line.specs.Fields.{LF, indexOf, following, split}
-use Rattle.line.specs.Answers.{Of}
-use Rattle.line.specs.Texts.{Records, Stop, linesOf, textOf, lineOf}
-use Rattle.line.proofs.Fields.{part-rest}
+use Rattle.declare.specs.Answers.{accepted, _>>=_}
+use Rattle.line.proofs.Turns.{Turn, first-turn, turn-count, last-turn, InHand, turn-refused, turn-within, turn-less, turn-taken}
 use Rattle.rule_text.specs.Types.{Rule, Found}
-use Rattle.rule_text.specs.Rules.{ruleOf, ruleAfter, rulesTextOf}
+use Rattle.rule_text.specs.Rules.{ruleOf, inTable, ruleAfter, rulesTextOf}
 use Rattle.rule_text.specs.Reads.{ruleRead}
-use Rattle.rule_text.proofs.Turns.{rule-found, rule-refused, found-end, turn-refused, turn-full, turn-taken, Held, held-count, held-none, held-taken, held-more, answer-refused, answer-accepted}
+use Rattle.rule_text.proofs.Turns.{full, in-table, answer-refused, answer-accepted}
 use borrow.Author.Needs.{needs}
 use Rattle.rule_text.proofs.read_rules.Statement.{statement}
 use Rattle.rule_text.proofs.read_rules.Tie as tie
 
 abbrev Inv-loop : tie.InvT-loop
-Inv-loop text rules₀ count₀ at₀ rules count at =
-    (at ≤ length text)
-    × Held count rules
-    × (rulesTextOf text ≡ linesOf ruleAfter (take count rules) (split LF (drop at text)))
+Inv-loop text rules₀ count₀ at₀ rules count at = Turn ruleOf inTable mostRules noRule text count at rules
 
 abbrev μ-loop : tie.MeasureT-loop
 μ-loop text rules₀ count₀ at₀ rules count at = length text - at
@@ -32,49 +26,22 @@ abbrev μ-loop : tie.MeasureT-loop
 abbrev Line : Type 0
 Line = tie.After-rule-line Inv-loop μ-loop
 
-abbrev text-of : Line → List ℕ
-text-of c = c .before .before .before .before .before .before .args .text .now
-
--- what is left of the text, and the rules held
-abbrev left : Line → List ℕ
-left c = drop (c .before .before .before .loop .at) (text-of c)
-
+-- the rules above the line
 abbrev above : Line → List Rule
 above c = take (c .before .before .before .loop .count) (c .before .before .before .loop .rules)
 
-some : (c : Line) → 0 < length (left c)
-some c = rw (length-drop (c .before .before .before .loop .at) (text-of c)) (omega (arith, c .before .before .loop-test .taken))
+in-hand : (c : Line) → InHand ruleOf inTable mostRules noRule (c .before .before .before .before .before .before .args .text .now) (c .before .before .before .loop .count) (c .before .before .before .loop .at) (c .before .before .before .loop .rules) (ruleRead (c .rule-line .result .answer)) (c .rule-line .result .next)
+in-hand c = record { turn = c .before .before .before .loop .inv; more = c .before .before .loop-test .taken; found = c .rule-line .ensures }
 
-line-is : (c : Line) → (ruleRead (c .rule-line .result .answer) ≡ lineOf ruleOf (left c)) × (c .rule-line .result .next ≡ indexOf LF (left c) + 1)
-line-is c = rw (part-rest (text-of c) (c .before .before .before .loop .at)) at (c .rule-line .ensures)
-
-found : (c : Line) (r : Rule) → c .rule-line .result .answer ≡ Found r → lineOf ruleOf (left c) ≡ Of r
-found c r h = rule-found _ _ (line-is c .0) r h
-
--- the next line begins in the text, or at its end
-room : (c : Line) (r : Rule) → c .rule-line .result .answer ≡ Found r → c .before .before .before .loop .at + c .rule-line .result .next ≤ length (text-of c)
-room c r h =
-    omega (arith, found-end (left c) r (found c r h), line-is c .1, length-drop (c .before .before .before .loop .at) (text-of c), c .before .before .loop-test .taken)
-
-next-left : (c : Line) → following LF (left c) ≡ drop (c .before .before .before .loop .at + c .rule-line .result .next) (text-of c)
-unfolding following
-next-left c = rw (← line-is c .1) (drop-drop (c .rule-line .result .next) (c .before .before .before .loop .at) (text-of c))
-
-held : (c : Line) → rulesTextOf (text-of c) ≡ linesOf ruleAfter (above c) (split LF (left c))
-held c = c .before .before .before .loop .inv .2
-
-count-is : (c : Line) → length (above c) ≡ c .before .before .before .loop .count
-count-is c = held-count _ _ (c .before .before .before .loop .inv .1)
-
-at-line : (c : Line) (n : ℕ) → _≡_ {A = Records Rule} (Stop n (length (above c) + 1)) (Stop n (c .before .before .before .loop .count + 1))
-at-line c n = ap (λ (k : ℕ). Stop n (k + 1)) (count-is c)
+found : (c : Line) (r : Rule) → c .rule-line .result .answer ≡ Found r → ruleRead (c .rule-line .result .answer) ≡ accepted r
+unfolding ruleRead
+found c r h = ap ruleRead h
 
 no-rule-requires : tie.Need-no-rule-requires Inv-loop μ-loop
 no-rule-requires c κs = search needs
 
 loop-holds : tie.Need-loop-holds Inv-loop μ-loop
-unfolding rulesTextOf textOf
-loop-holds c = (omega arith, held-none (c .no-rule .result) (c .no-rule .ensures), refl)
+loop-holds c = rw (c .no-rule .ensures) (first-turn _ _ _ _ _)
 
 sub-rule-line : tie.Need-sub-rule-line Inv-loop μ-loop
 sub-rule-line c = search needs
@@ -98,10 +65,10 @@ refused-requires : tie.Need-refused-requires Inv-loop μ-loop
 refused-requires c κs = search needs
 
 returns : tie.Need-returns Inv-loop μ-loop
+unfolding rulesTextOf ruleAfter ruleRead _>>=_
 returns c =
     let k = c .before .before .before .before in
-    let r = rule-refused _ _ (line-is k .0) _ (c .before .before .answer .given .1) in
-    answer-refused _ _ _ _ (c .refused .ensures .0) (c .refused .ensures .1) (held k ∙ turn-refused (above k) (left k) (some k) _ r ∙ at-line k _)
+    answer-refused _ _ _ _ (c .refused .ensures .0) (c .refused .ensures .1) (turn-refused (in-hand k) _ (rw (c .before .before .answer .given .1)))
 
 enum-known-answer-2 : tie.Need-enum-known-answer-2 Inv-loop μ-loop
 enum-known-answer-2 c = search needs
@@ -113,12 +80,12 @@ refused-requires-2 : tie.Need-refused-requires-2 Inv-loop μ-loop
 refused-requires-2 c κs = search needs
 
 returns-2 : tie.Need-returns-2 Inv-loop μ-loop
-unfolding numberOf
+unfolding numberOf rulesTextOf ruleAfter _>>=_
 returns-2 c =
     let k = c .before .before .before .before .before in
     let a = c .before .before .before .answer2 in
-    let m : 16 ≤ length (above k) = omega (arith, count-is k, c .before .if1 .taken) in
-    answer-refused _ _ _ _ (c .refused2 .ensures .0) (c .refused2 .ensures .1) (held k ∙ turn-full (above k) (left k) (some k) _ (found k (a .given .0 .0) (a .given .1)) m ∙ at-line k 8)
+    let m : mostRules ≤ length (above k) = omega (arith, turn-count (in-hand k .turn), c .before .if1 .taken) in
+    answer-refused _ _ _ _ (c .refused2 .ensures .0) (c .refused2 .ensures .1) (turn-refused (in-hand k) 8 (rw (found k _ (a .given .1)) (full (above k) (a .given .0 .0) m)))
 
 mul-rules : tie.Need-mul-rules Inv-loop μ-loop
 mul-rules c = search needs
@@ -131,33 +98,28 @@ add-count c = search needs
 
 add-at : tie.Need-add-at Inv-loop μ-loop
 add-at c =
-    let h = room (c .before .before .before .before .before) _ (c .before .before .before .answer2 .given .1) in
+    let k = c .before .before .before .before .before in
+    let h = turn-within (in-hand k) _ (found k _ (c .before .before .before .answer2 .given .1)) in
     search needs
 
 loop-less : tie.Need-loop-less Inv-loop μ-loop
 loop-less c =
     let k = c .before .before .before .before .before in
-    omega (arith, room k _ (c .before .before .before .answer2 .given .1), line-is k .1, k .before .before .loop-test .taken)
+    turn-less (in-hand k) _ (found k _ (c .before .before .before .answer2 .given .1))
 
 loop-again : tie.Need-loop-again Inv-loop μ-loop
 loop-again c =
     let k = c .before .before .before .before .before in
     let a = c .before .before .before .answer2 in
     let r = a .given .0 .0 in
-    let v = k .before .before .before .loop .inv in
-    let m : k .before .before .before .loop .count < 16 = omega (arith, c .before .if1 .left) in (
-      room k r (a .given .1),
-      held-more _ _ r (v .1) m,
-      held k
-          ∙ turn-taken (above k) (left k) (some k) r (found k r (a .given .1)) (omega (arith, count-is k))
-          ∙ rw (held-taken _ _ r (v .1) m, next-left k),
-    )
+    let m : k .before .before .before .loop .count < mostRules = omega (arith, c .before .if1 .left) in
+    turn-taken (in-hand k) r (found k r (a .given .1)) (in-table (above k) r (omega (arith, turn-count (in-hand k .turn)))) m
 
 returns-3 : tie.Need-returns-3 Inv-loop μ-loop
-unfolding linesOf split none
+unfolding rulesTextOf ruleAfter
 returns-3 c =
-    let v = c .before .loop .inv in
-    answer-accepted (rulesTextOf (c .before .before .before .before .args .text .now)) _ _ (v .1) (v .2 ∙ rw (drop-of-length-le _ (c .loop-test .left)))
+    let t = c .before .loop .inv in
+    answer-accepted (rulesTextOf (c .before .before .before .before .args .text .now)) _ _ (t .filled) (last-turn t (c .loop-test .left))
 
 pub read-rules-spec : {M : Type 1} → statement M
 read-rules-spec =

@@ -1,6 +1,6 @@
 -- `refused`: no rule, and the refusal.
 use mathlib.Core.Path.{refl}
-use Rattle.rule_text.specs.Reads.{padded, tableOf}
+use Rattle.declare.specs.Slots.{padded, tableOf}
 use borrow.Author.Needs.{needs}
 use Rattle.rule_text.proofs.refused.Statement.{statement}
 use Rattle.rule_text.proofs.refused.Tie as tie

@@ -1,5 +1,7 @@
--- `tally::absorb` meets its contract: a walk of its MIR, by hand. The borrow is opened, the tally is copied out of it and passed to `absorbed` with what is counted, the tally that `absorbed` returned is stored over it, and the borrow is closed at that.
--- All that the proof knows of `absorbed` is that it meets its contract.
+-- `tally::absorb` meets its contract: a walk of its MIR, by hand. The borrow is opened, the tally
+-- is copied out of it and passed to `absorbed` with what is counted, the tally that `absorbed`
+-- returned is stored over it, and the borrow is closed at that. All that the proof knows of
+-- `absorbed` is that it meets its contract.
 use mathlib.Core.Path.{refl, ap}
 use Prim.Native.Nat.{ℕ}
 use mathlib.Core.List.{[], _∷_, List}
@@ -38,14 +40,14 @@ use denote.Triple.Table.{entered, cited}
 use denote.Triple.Walked.{says, Stays, stay-ref, stay-none, walkOf, AllGo, goes-none, goes-ref, Walks, ends-at, walked, walk-meets}
 use denote.Exit.{yes}
 use Rattle.tally.specs.declared.Tally.{Tally}
-use Rattle.tally.specs.declared.Answer.{Answer}
+use Rattle.tally.specs.declared.Outcome.{Outcome}
 use Rattle.tally.specs.declared.Counted.{Counted}
 use Rattle.tally.specs.declared.Sum.{Sum}
 use Rattle.tally.specs.Tally.{Absorbs}
 use Rattle.tally.proofs.Tally as T
 use Rattle.tally.proofs.Tally.Laws as T′
-use Rattle.tally.proofs.Answer as E
-use Rattle.tally.proofs.Answer.Laws as E′
+use Rattle.tally.proofs.Outcome as E
+use Rattle.tally.proofs.Outcome.Laws as E′
 use Rattle.tally.proofs.Counted as K
 use Rattle.tally.proofs.Counted.Laws as K′
 use Rattle.tally.proofs.Sum as S
@@ -72,23 +74,23 @@ tallyVal = LL.val T.the-type T′.the-laws
 abbrev countedVal : Counted → Val
 countedVal = LL.val K.the-type K′.the-laws
 
-abbrev answerVal : Answer → Val
-answerVal = EL.val E.the-type E′.the-laws
+abbrev outcomeVal : Outcome → Val
+outcomeVal = EL.val E.the-type E′.the-laws
 
 -- what whoever holds a Sum knows of its parts
 is-tally : (r : Sum) (vs : List Val) → Is S.the-row r vs → Is T.the-row (r .tally) (tallyVal (r .tally) ∷ [])
 is-tally r vs g = LL.owed S.the-type S′.the-laws r vs g .0
 
-is-answer : (r : Sum) (vs : List Val) → Is S.the-row r vs → Is E.the-row (r .answer) (answerVal (r .answer) ∷ [])
-is-answer r vs g = LL.owed S.the-type S′.the-laws r vs g .1 .0
+is-outcome : (r : Sum) (vs : List Val) → Is S.the-row r vs → Is E.the-row (r .outcome) (outcomeVal (r .outcome) ∷ [])
+is-outcome r vs g = LL.owed S.the-type S′.the-laws r vs g .1 .0
 
 module _ {M : Type 1} (𝓤 : URA M) (H : Heap 𝓤) (A : Atoms 𝓤) (mem : Memory → SProp 𝓤) (run : Routine → Fun 𝓤) where
   -- the contract that the proof cites
   abbrev Callee : Contract 𝓤
   Callee = tripleOf 𝓤 H A absorbed.signature (absorbed.spec 𝓤 H A mem run)
 
-  said-of : (t : Tally) (c : Counted) (r : Sum) → ent 𝓤 (ensured 𝓤 H A absorbed.ended (absorbed.clauses 𝓤 H A mem run) tt (t, (c, tt)) tt r) (fact 𝓤 (Absorbs t c (r .tally) (r .answer)))
-  said-of t c r = exE 𝓤 _ (λ ws. snd∗ 𝓤 (sem 𝓤 H A (lasts absorbed.ended tt (t, (c, tt)) ws)) (fact 𝓤 (Absorbs t c (r .tally) (r .answer))))
+  said-of : (t : Tally) (c : Counted) (r : Sum) → ent 𝓤 (ensured 𝓤 H A absorbed.ended (absorbed.clauses 𝓤 H A mem run) tt (t, (c, tt)) tt r) (fact 𝓤 (Absorbs t c (r .tally) (r .outcome)))
+  said-of t c r = exE 𝓤 _ (λ ws. snd∗ 𝓤 (sem 𝓤 H A (lasts absorbed.ended tt (t, (c, tt)) ws)) (fact 𝓤 (Absorbs t c (r .tally) (r .outcome))))
 
 module _ {M : Type 1} (𝓤 : URA M) (H : Heap 𝓤) (A : Atoms 𝓤) (W : Given 𝓤 H A) (at-mem : Memory → SProp 𝓤) (run : Routine → Fun 𝓤) (κ : Lft) (q : Share) (b o : ℕ) (γ : GName) (h : Tally) (c : Counted) (is-counted : Is K.the-row c (countedVal c ∷ [])) where
   abbrev x : Arg
@@ -100,12 +102,12 @@ module _ {M : Type 1} (𝓤 : URA M) (H : Heap 𝓤) (A : Atoms 𝓤) (W : Given
   abbrev Post : Val → SProp 𝓤
   Post = walkOf 𝓤 H A absorb.ended stayed (absorb.clauses 𝓤 H A at-mem run) .post (((κ, tt), (q, tt), tt, x, at), tt)
 
-  exits : (r : Sum) → Absorbs h c (r .tally) (r .answer) → Is E.the-row (r .answer) (answerVal (r .answer) ∷ []) → ent 𝓤 (sep 𝓤 (A .obs γ (T.the-row .coded .code (r .tally))) (sep 𝓤 (A .bor κ (Body (mem T.the-row) b o γ)) (A .lft κ q))) (Post (answerVal (r .answer)))
+  exits : (r : Sum) → Absorbs h c (r .tally) (r .outcome) → Is E.the-row (r .outcome) (outcomeVal (r .outcome) ∷ []) → ent 𝓤 (sep 𝓤 (A .obs γ (T.the-row .coded .code (r .tally))) (sep 𝓤 (A .bor κ (Body (mem T.the-row) b o γ)) (A .lft κ q))) (Post (outcomeVal (r .outcome)))
   exits r e is =
       qed W (‵ (fobs γ (T.the-row .coded .code (r .tally))) ∷ ‵ (fbor κ (Body (mem T.the-row) b o γ)) ∷ ‵ (flft κ q) ∷ []) ∵
-      suffices ! _ (ends-at 𝓤 H A absorb.ended stayed (absorb.clauses 𝓤 H A at-mem run) W (((κ, tt), (q, tt), tt, x, at), tt) (answerVal (r .answer)) (r .answer) (r .tally, (tt, tt)) (tt, (tt, tt))) $ says ! e $ nothing ! $ move ! (3 ∷ 0 ∷ []) $ join ! $
+      suffices ! _ (ends-at 𝓤 H A absorb.ended stayed (absorb.clauses 𝓤 H A at-mem run) W (((κ, tt), (q, tt), tt, x, at), tt) (outcomeVal (r .outcome)) (r .outcome) (r .tally, (tt, tt)) (tt, (tt, tt))) $ says ! e $ nothing ! $ move ! (3 ∷ 0 ∷ []) $ join ! $
       frame ! $ feqI ! (List Val) (vptr b o ∷ []) (vptr b o ∷ []) refl $ fjoin3 ! $ nothing ! $ owned ! K.the-row (Is K.the-row) (LL.makes K.the-type K′.the-plain 𝓤 H A) c _ is-counted $ fjoin ! $ move ! (1 ∷ 0 ∷ []) $ fjoin ! $
-      owned ! E.the-row (Is E.the-row) (EL.makes E.the-type E′.the-plain 𝓤 H A) (r .answer) _ is $ move ! (1 ∷ 0 ∷ []) $ done !
+      owned ! E.the-row (Is E.the-row) (EL.makes E.the-type E′.the-plain 𝓤 H A) (r .outcome) _ is $ move ! (1 ∷ 0 ∷ []) $ done !
 
   -- what the callee's triple binds outside
   abbrev to-sum : Callee 𝓤 H A at-mem run .Ghost
@@ -124,23 +126,25 @@ module _ {M : Type 1} (𝓤 : URA M) (H : Heap 𝓤) (A : Atoms 𝓤) (W : Given
         move ! (11 ∷ []) $ fsplit ! $ fsplit3 ! $ drop ! $ move ! (13 ∷ []) $ split ! $ move ! (2 ∷ 3 ∷ 0 ∷ []) $
         opens ! tt T.the-row {h = h} b o (λ vs. spelt ! T.the-row (Is T.the-row) (shows 𝓤 H A T.the-row) (LL.vals T.the-type T′.the-laws) (LL.tells T.the-type T′.the-laws) fullShare h vs b o $
         move ! (1 ∷ []) $ peeks ! T.the-row (Is T.the-row) (shows 𝓤 H A T.the-row) h (tallyVal h ∷ []) (λ was.
-        -- [what a Tally owns; the tally's cell; the open borrow; obs; auth; true; the others'; _4; …; _3; …; _2; …; _1; …; room for _0; …]
+        -- [what a Tally owns; the tally's cell; the open borrow; obs; auth; true; the others'; _4;
+        -- …; _3; …; _2; …; _1; …; room for _0; …]
         assigns ! (of-opd ! (load ! (from ! (hop ! (look ! 13 refl) (stop !))) (look-raw ! 1 refl))) (from ! (stop !)) (init ! 7 refl (LL.lawful T.the-type T′.the-laws 𝓤 H A W .typed h _ was .0)) $
         use1 W (raw (Callee 𝓤 H A at-mem run .pre to-sum)) goes-sum $
         calls-at ! fm (Callee 𝓤 H A at-mem run) known to-sum (and-then ! (load ! (from ! (stop !)) (look ! 7 refl)) (and-then ! (load ! (from ! (stop !)) (look ! 11 refl)) (no-more !))) (λ w.
         use1 W (later (some (λ (r : Sum). (‵ ftrue ⊛ ‵ (S.the-row .own r (w ∷ []))) ⊛ raw (ensured 𝓤 H A absorbed.ended (absorbed.clauses 𝓤 H A at-mem run) tt (h, (c, tt)) tt r)))) (id⊢ 𝓤 _) $ await ! tt $ pick ! (λ r.
-        split ! $ move ! (1 ∷ []) $ use1 W (raw (fact 𝓤 (Absorbs h c (r .tally) (r .answer)))) (said-of 𝓤 H A at-mem run h c r) $ heard ! (Absorbs h c (r .tally) (r .answer)) (λ e. split ! $ drop ! $
+        split ! $ move ! (1 ∷ []) $ use1 W (raw (fact 𝓤 (Absorbs h c (r .tally) (r .outcome)))) (said-of 𝓤 H A at-mem run h c r) $ heard ! (Absorbs h c (r .tally) (r .outcome)) (λ e. split ! $ drop ! $
         peeks ! S.the-row (Is S.the-row) (shows 𝓤 H A S.the-row) r (w ∷ []) (λ is.
         land ! (from ! (stop !)) (init ! 9 refl (LL.lawful S.the-type S′.the-laws 𝓤 H A W .typed r _ is .0)) $
         rewrite ! 9 (λ (u : Val). ‵ (fat fullShare S′.mir l₃ 0 u)) (ap only (LL.tells S.the-type S′.the-laws r (w ∷ []) is)) refl $
-        -- [what a Sum owns; the tally's cell; the open borrow; …]: the sum's tally is stored, its answer copied into the result
+        -- [what a Sum owns; the tally's cell; the open borrow; …]: the sum's tally is stored, its
+        -- outcome copied into the result
         assigns ! (of-opd ! (load ! (from ! (fld ! refl (stop !))) (look-in ! 9 (sub ! 0 refl (whole !))))) (from ! (hop ! (look ! 13 refl) (stop !))) (store-raw ! 1 refl (LL.lawful T.the-type T′.the-laws 𝓤 H A W .typed (r .tally) _ (is-tally r _ is) .0)) $
-        assigns ! (of-opd ! (load ! (from ! (fld ! refl (stop !))) (look-in ! 9 (sub ! 1 refl (whole !))))) (from ! (stop !)) (init ! 15 refl (EL.lawful E.the-type E′.the-laws 𝓤 H A W tt .typed (r .answer) _ (is-answer r _ is) .0)) $
+        assigns ! (of-opd ! (load ! (from ! (fld ! refl (stop !))) (look-in ! 9 (sub ! 1 refl (whole !))))) (from ! (stop !)) (init ! 15 refl (EL.lawful E.the-type E′.the-laws 𝓤 H A W tt .typed (r .outcome) _ (is-outcome r _ is) .0)) $
         -- the borrow is closed
         drop ! $ owned ! T.the-row (Is T.the-row) (LL.makes T.the-type T′.the-plain 𝓤 H A) (r .tally) _ (is-tally r _ is) $ move ! (1 ∷ 0 ∷ []) $ closes ! tt T.the-row (r .tally) (tallyVal (r .tally) ∷ []) b o $
         returns ! (look ! 13 refl) $ forget ! 5 refl $ forget ! 7 refl $ forget ! 9 refl $ forget ! 11 refl $ forget ! 13 refl $
         move ! (13 ∷ 14 ∷ []) $ free1 ! $ move ! (11 ∷ 12 ∷ []) $ free1 ! $ move ! (9 ∷ 10 ∷ []) $ free1 ! $ move ! (7 ∷ 8 ∷ []) $ free1 ! $ move ! (5 ∷ 6 ∷ []) $ free1 ! $ free0 ! $
-        keep ! (0 ∷ 1 ∷ 2 ∷ []) $ by ! (exits r e (is-answer r _ is)))))))))))))
+        keep ! (0 ∷ 1 ∷ 2 ∷ []) $ by ! (exits r e (is-outcome r _ is)))))))))))))
 
 module _ {M : Type 1} (𝓤 : URA M) (H : Heap 𝓤) (A : Atoms 𝓤) (W : Given 𝓤 H A) (mem : Memory → SProp 𝓤) (run : Routine → Fun 𝓤) where
   absorb-walks : (C : Calls 𝓤 H) (Λ : Loops 𝓤 H) → FmC 𝓤 H (W .laws) C → Triple 𝓤 (C #tally·absorbed) (Callee 𝓤 H A mem run) → Walks 𝓤 H A absorb.ended stayed (WpFn 𝓤 H C Λ code.function) (absorb.clauses 𝓤 H A mem run)

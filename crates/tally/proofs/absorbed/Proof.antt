@@ -1,8 +1,7 @@
 -- By what was counted: the totals are summed, or a refusal is passed on.
 use mathlib.Core.Path.{refl, ap}
-use Rattle.declare.specs.Refusals.{number}
-use Rattle.tally.specs.declared.Answer.the-variants.{InvalidRecord, NotFound, WrongPhase}
-use Rattle.tally.specs.Tally.{answerReply, countsReply}
+use Rattle.tally.specs.declared.Outcome.the-variants.{InvalidRecord, NotFound, WrongPhase}
+use Rattle.tally.specs.Tally.{tallyAnswer, countedAnswer}
 use Rattle.tally.proofs.Sums.{absorbs-totals, absorbs-none}
 use borrow.Author.Needs.{needs}
 use Rattle.tally.proofs.absorbed.Statement.{statement}
@@ -27,16 +26,16 @@ returns : tie.Need-returns
 returns c = absorbs-totals _ _ _ _ (c .before .before .answer .given .1) (c .with-totals .ensures)
 
 returns-2 : tie.Need-returns-2
-unfolding answerReply countsReply
-returns-2 c = absorbs-none _ _ InvalidRecord (number 11) refl (ap countsReply (c .enum-told .given .1))
+unfolding tallyAnswer countedAnswer
+returns-2 c = absorbs-none _ _ InvalidRecord 11 refl (ap countedAnswer (c .enum-told .given .1))
 
 returns-3 : tie.Need-returns-3
-unfolding answerReply countsReply
-returns-3 c = absorbs-none _ _ NotFound (number 10) refl (ap countsReply (c .enum-told2 .given .1))
+unfolding tallyAnswer countedAnswer
+returns-3 c = absorbs-none _ _ NotFound 10 refl (ap countedAnswer (c .enum-told2 .given .1))
 
 returns-4 : tie.Need-returns-4
-unfolding answerReply countsReply
-returns-4 c = absorbs-none _ _ WrongPhase (number 9) refl (ap countsReply (c .enum-told3 .given .1))
+unfolding tallyAnswer countedAnswer
+returns-4 c = absorbs-none _ _ WrongPhase 9 refl (ap countedAnswer (c .enum-told3 .given .1))
 
 pub absorbed-spec : {M : Type 1} → statement M
 absorbed-spec =

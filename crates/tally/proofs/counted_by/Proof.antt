@@ -15,8 +15,8 @@ returns c = rw (c .before .before .answer .given .1, not-true (c .before .before
 enum-known-answer-2 : tie.Need-enum-known-answer-2
 enum-known-answer-2 c = search needs
 
-answer-for-requires : tie.Need-answer-for-requires
-answer-for-requires c κs = search needs
+counted-for-requires : tie.Need-counted-for-requires
+counted-for-requires c κs = search needs
 
 returns-2 : tie.Need-returns-2
 unfolding countedBy
@@ -24,7 +24,7 @@ returns-2 c = rw (c .before .before .answer .given .1, not-false (c .before .bef
 
 returns-3 : tie.Need-returns-3
 unfolding countedBy
-returns-3 c = rw (c .before .before .answer2 .given .1, c .answer-for .ensures)
+returns-3 c = rw (c .before .before .answer2 .given .1, c .counted-for .ensures)
 
 pub counted-by-spec : {M : Type 1} → statement M
-counted-by-spec = tie.close (tie.spec enum-known-answer returns enum-known-answer-2 answer-for-requires returns-2 returns-3)
+counted-by-spec = tie.close (tie.spec enum-known-answer returns enum-known-answer-2 counted-for-requires returns-2 returns-3)

@@ -3,7 +3,7 @@ use mathlib.Core.Path.{_≡_, sym, _∙_}
 use mathlib.Core.Bool.{true}
 use native.Mathlib.Omega.{arith}
 use borrow.Author.Tests.{not-true, not-false}
-use Rattle.tally.specs.Tally.{fits}
+use Rattle.tally.specs.Tally.{hasRoomFor}
 use Rattle.tally.specs.Sums.{summed}
 use Rattle.tally.proofs.Sums.{Room, room}
 use borrow.Author.Needs.{needs}
@@ -11,18 +11,18 @@ use Rattle.tally.proofs.with_totals.Statement.{statement}
 use Rattle.tally.proofs.with_totals.Tie as tie
 
 -- where the code goes on, all fields have room
-fitting : (c : tie.Else1) → fits (c .before .before .args .tally) (c .before .before .args .totals) ≡ true
-fitting c = sym (c .before .all-fit .ensures) ∙ not-false _ (c .if1 .left)
+fitting : (c : tie.Else1) → hasRoomFor (c .before .before .args .tally) (c .before .before .args .totals) ≡ true
+fitting c = sym (c .before .has-room-for .ensures) ∙ not-false _ (c .if1 .left)
 
 roomy : (c : tie.Else1) → Room (c .before .before .args .tally) (c .before .before .args .totals)
 roomy c = room _ _ (fitting c)
 
-all-fit-requires : tie.Need-all-fit-requires
-all-fit-requires c κs = search needs
+has-room-for-requires : tie.Need-has-room-for-requires
+has-room-for-requires c κs = search needs
 
 returns : tie.Need-returns
 unfolding summed
-returns c = rw (sym (c .before .all-fit .ensures) ∙ not-true _ (c .if1 .taken))
+returns c = rw (sym (c .before .has-room-for .ensures) ∙ not-true _ (c .if1 .taken))
 
 add-t7 : tie.Need-add-t7
 add-t7 c = record { fits = omega (arith, roomy (c .before) .cycles) }
@@ -53,7 +53,7 @@ pub with-totals-spec : {M : Type 1} → statement M
 with-totals-spec =
     tie.close
     (tie.spec
-    all-fit-requires
+    has-room-for-requires
     returns
     add-t7
     number-requires

@@ -16,8 +16,8 @@ loop-holds c = search needs
 close-requires : tie.Need-close-requires Inv-loop μ-loop
 close-requires c κs = search needs
 
-of-answer-requires : tie.Need-of-answer-requires Inv-loop μ-loop
-of-answer-requires c κs = search needs
+of-outcome-requires : tie.Need-of-outcome-requires Inv-loop μ-loop
+of-outcome-requires c κs = search needs
 
 joined-requires : tie.Need-joined-requires Inv-loop μ-loop
 joined-requires c κs = search needs
@@ -48,7 +48,7 @@ closes-spec =
     μ-loop
     loop-holds
     close-requires
-    of-answer-requires
+    of-outcome-requires
     joined-requires
     of-run-requires
     joined-requires-2

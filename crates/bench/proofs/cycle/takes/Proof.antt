@@ -16,8 +16,8 @@ loop-holds c = search needs
 take-requires : tie.Need-take-requires Inv-loop μ-loop
 take-requires c κs = search needs
 
-of-answer-requires : tie.Need-of-answer-requires Inv-loop μ-loop
-of-answer-requires c κs = search needs
+of-outcome-requires : tie.Need-of-outcome-requires Inv-loop μ-loop
+of-outcome-requires c κs = search needs
 
 joined-requires : tie.Need-joined-requires Inv-loop μ-loop
 joined-requires c κs = search needs
@@ -48,7 +48,7 @@ takes-spec =
     μ-loop
     loop-holds
     take-requires
-    of-answer-requires
+    of-outcome-requires
     joined-requires
     of-run-requires
     joined-requires-2

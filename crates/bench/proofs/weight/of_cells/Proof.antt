@@ -1,14 +1,15 @@
 -- A loop over the cells.
 use borrow.Author.Needs.{needs}
 use Prim.Native.Nat.{_-_, _≤_}
+use Rattle.standings.specs.Places.{places}
 use Rattle.bench.proofs.weight.of_cells.Statement.{statement}
 use Rattle.bench.proofs.weight.of_cells.Tie as tie
 
 abbrev Inv-loop : tie.InvT-loop
-Inv-loop cells sum₀ j₀ sum j = j ≤ 4096
+Inv-loop cells sum₀ j₀ sum j = j ≤ places
 
 abbrev μ-loop : tie.MeasureT-loop
-μ-loop cells sum₀ j₀ sum j = 4096 - j
+μ-loop cells sum₀ j₀ sum j = places - j
 
 loop-holds : tie.Need-loop-holds Inv-loop μ-loop
 loop-holds c = search needs

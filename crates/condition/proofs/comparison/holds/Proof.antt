@@ -31,8 +31,8 @@ blank-holds-requires-2 c κs = search needs
 enum-known-y : tie.Need-enum-known-y
 enum-known-y c = search needs
 
-compare-requires : tie.Need-compare-requires
-compare-requires c κs = search needs
+compares-requires : tie.Need-compares-requires
+compares-requires c κs = search needs
 
 returns : tie.Need-returns
 unfolding holds
@@ -51,7 +51,7 @@ unfolding holds
 returns-4 c =
     let v : toZ w64 (ofZ w64 (c .before .before .before .before .before .x .given .0 .0)) ≡ c .before .before .before .before .before .x .given .0 .0 = search needs in
     let w : toZ w64 (ofZ w64 (c .before .before .y .given .0 .0)) ≡ c .before .before .y .given .0 .0 = search needs in
-    rw (c .before .before .before .before .before .x .given .1, c .before .before .y .given .1, c .compare .ensures, v, w)
+    rw (c .before .before .before .before .before .x .given .1, c .before .before .y .given .1, c .compares .ensures, v, w)
 
 pub holds-spec : {M : Type 1} → statement M
 holds-spec =
@@ -65,7 +65,7 @@ holds-spec =
     enum-told-4
     blank-holds-requires-2
     enum-known-y
-    compare-requires
+    compares-requires
     returns
     returns-2
     returns-3

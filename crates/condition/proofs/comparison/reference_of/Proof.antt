@@ -2,10 +2,9 @@
 use mathlib.Core.Path.{_≡_}
 use mir.Syntax.{w32}
 use mir.Val.{toZ, ofZ}
-use borrow.Author.Needs.{sfits-of}
+use borrow.Author.Needs.{sfits-of, needs}
 use Rattle.declare.specs.Comparisons.{referenceOf}
 use Rattle.condition.proofs.Widen.{widens, widened}
-use borrow.Author.Needs.{needs}
 use Rattle.condition.proofs.comparison.reference_of.Statement.{statement}
 use Rattle.condition.proofs.comparison.reference_of.Tie as tie
 

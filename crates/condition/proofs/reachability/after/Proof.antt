@@ -13,24 +13,26 @@ use Rattle.condition.proofs.Widen.{after-fits}
 use Rattle.condition.proofs.reachability.after.Statement.{statement}
 use Rattle.condition.proofs.reachability.after.Tie as tie
 
+kept : (s : tie.Start) → toZ w64 (ofZ w64 (s .args .y)) ≡ s .args .y
+kept s = search needs
+
 add-result : tie.Need-add-result
+unfolding greatest
 add-result c =
-    let z : toZ w64 (ofZ w64 (c .before .args .y)) ≡ c .before .args .y = search needs in
-    rw z (after-fits (c .before .args .y) (c .before .fits .y) (rw z at (c .if1 .taken)))
+    let s = c .before in
+    rw (kept s) (after-fits (s .args .y) (s .fits .y) (rw (kept s) at (c .if1 .taken)))
 
 returns : tie.Need-returns
 unfolding after greatest
 returns c =
-    let z : toZ w64 (ofZ w64 (c .before .args .y)) ≡ c .before .args .y = search needs in
-    let t : ltZ (c .before .args .y) (pos 2147483647) ≡ true = rw z at (c .if1 .taken) in
-    rw (z, toZ-ofZ {w = w64} {z = c .before .args .y +ℤ pos 1} (after-fits (c .before .args .y) (c .before .fits .y) t), t)
-    (+ℤ-one (c .before .args .y))
+    let s = c .before in
+    let below : ltZ (s .args .y) greatest ≡ true = rw (kept s) at (c .if1 .taken) in
+    rw (kept s, toZ-ofZ {w = w64} {z = s .args .y +ℤ pos 1} (after-fits (s .args .y) (s .fits .y) below), below)
+    (+ℤ-one (s .args .y))
 
 returns-2 : tie.Need-returns-2
 unfolding after greatest
-returns-2 c =
-    let z : toZ w64 (ofZ w64 (c .before .args .y)) ≡ c .before .args .y = search needs in
-    rw (z, rw z at (c .if1 .left))
+returns-2 c = rw (kept (c .before), rw (kept (c .before)) at (c .if1 .left))
 
 pub after-spec : {M : Type 1} → statement M
 after-spec = tie.close (tie.spec add-result returns returns-2)

@@ -32,18 +32,18 @@ after-requires-2 c κs = search needs
 enum-told-6 : tie.Need-enum-told-6
 enum-told-6 c = search needs
 
+kept : (s : tie.Start) → toZ w64 (ofZ w64 (s .args .y)) ≡ s .args .y
+kept s = search needs
+
 returns : tie.Need-returns
 unfolding edgeOf
-returns c =
-    let y : toZ w64 (ofZ w64 (c .before .before .args .y)) ≡ c .before .before .args .y = search needs in
-    rw (y, c .enum-told .given .1)
+returns c = rw (kept (c .before .before), c .enum-told .given .1)
 
 returns-2 : tie.Need-returns-2
 unfolding edgeOf
 returns-2 c =
-    let y : toZ w64 (ofZ w64 (c .before .before .before .args .y)) ≡ c .before .before .before .args .y = search needs in
     let r : toZ w64 (ofZ w64 (c .after .result)) ≡ c .after .result = search needs in
-    rw (r, c .after .ensures, y, c .before .enum-told2 .given .1)
+    rw (r, c .after .ensures, kept (c .before .before .before), c .before .enum-told2 .given .1)
 
 returns-3 : tie.Need-returns-3
 unfolding edgeOf least
@@ -56,15 +56,12 @@ returns-4 c = rw (c .enum-told4 .given .1)
 returns-5 : tie.Need-returns-5
 unfolding edgeOf
 returns-5 c =
-    let y : toZ w64 (ofZ w64 (c .before .before .before .args .y)) ≡ c .before .before .before .args .y = search needs in
     let r : toZ w64 (ofZ w64 (c .after2 .result)) ≡ c .after2 .result = search needs in
-    rw (r, c .after2 .ensures, y, c .before .enum-told5 .given .1)
+    rw (r, c .after2 .ensures, kept (c .before .before .before), c .before .enum-told5 .given .1)
 
 returns-6 : tie.Need-returns-6
 unfolding edgeOf
-returns-6 c =
-    let y : toZ w64 (ofZ w64 (c .before .before .args .y)) ≡ c .before .before .args .y = search needs in
-    rw (y, c .enum-told6 .given .1)
+returns-6 c = rw (kept (c .before .before), c .enum-told6 .given .1)
 
 pub edge-of-spec : {M : Type 1} → statement M
 edge-of-spec =

@@ -1,4 +1,5 @@
--- The earliest time is that of the window's opening, or the horizon where that is later; the opening fits 32 bits or is past every event.
+-- The earliest time is that of the window's opening, or the horizon where that is later; the
+-- opening fits 32 bits or is past every event.
 use mathlib.Core.Path.{_≡_}
 use Prim.Native.Nat.{_+_, _-_, max}
 use native.Mathlib.Omega.{arith}
@@ -13,12 +14,12 @@ sub-if1 : tie.Need-sub-if1
 sub-if1 c = search needs
 
 returns : tie.Need-returns
-unfolding hasRoom soonest latest
+unfolding hasRoom soonest
 returns c =
     let t = c .before .args .time in
     let h = c .before .args .horizon in
     let a = c .before .args .window .from in
-    rw (lt-leb (max h (t + a)) 4294967295 (omega arith))
+    rw (lt-leb (max h (t + a)) latest (omega arith))
 
 add-opening : tie.Need-add-opening
 add-opening c = search needs
@@ -27,14 +28,14 @@ within-requires : tie.Need-within-requires
 within-requires c κs = search needs
 
 returns-2 : tie.Need-returns-2
-unfolding hasRoom soonest latest
+unfolding hasRoom soonest
 returns-2 c =
     let t = c .before .before .before .args .time in
     let h = c .before .before .before .args .horizon in
     let a = c .before .before .before .args .window .from in
     let s : max h (t + a) ≡ t + a = omega arith in
     let d : t + a - t ≡ a = omega arith in
-    rw (s, le-leb (t + a) 4294967295 (omega arith), d) (c .within .ensures)
+    rw (s, le-leb (t + a) latest (omega arith), d) (c .within .ensures)
 
 sub-within : tie.Need-sub-within
 sub-within c = search needs
@@ -43,13 +44,13 @@ within-requires-2 : tie.Need-within-requires-2
 within-requires-2 c κs = search needs
 
 returns-3 : tie.Need-returns-3
-unfolding hasRoom soonest latest
+unfolding hasRoom soonest
 returns-3 c =
     let t = c .before .before .before .args .time in
     let h = c .before .before .before .args .horizon in
     let a = c .before .before .before .args .window .from in
     let s : max h (t + a) ≡ h = omega arith in
-    rw (s, le-leb h 4294967295 (omega arith)) (c .within2 .ensures)
+    rw (s, le-leb h latest (omega arith)) (c .within2 .ensures)
 
 pub has-room-spec : {M : Type 1} → statement M
 has-room-spec =

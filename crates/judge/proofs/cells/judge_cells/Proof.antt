@@ -1,44 +1,47 @@
--- The places passed so far are judged; a jump to the next row passes places that are not in use. Counts past what the arrays hold
--- mean no more than all they hold.
+-- The places passed so far are judged; a jump to the next row passes places that are not in use.
+-- Counts past what the arrays hold mean no more than all they hold.
 use borrow.Author.Needs.{needs}
 use borrow.Author.Tests.{not-true}
 use mathlib.Core.Path.{_≡_, sym, ap₂, _∙_}
 use mathlib.Core.Bool.{true, false, not}
-use Prim.Native.Nat.{ℕ, _+_, _-_, _*_, _/_, _%_, min, _≤_, _<_}
+use Prim.Native.Nat.{ℕ, _-_, _*_, _≤_}
 use native.Mathlib.Omega.{arith}
-use lib.ListN.{length, getD}
+use lib.ListN.{length, getD, take}
+use Rattle.declare.specs.declared.Standing.{Standing}
+use Rattle.declare.specs.Limits.{mostRules, mostEvents}
 use Rattle.declare.specs.Rules.{noRule, noCondition, noComparison}
 use Rattle.declare.specs.Events.{noEvent}
 use Rattle.declare.proofs.Booleans.{and₂}
 use Rattle.declare.proofs.Sweeps.{Swept, swept-none, swept-again, swept-kept, swept-skip, swept-all}
-use Rattle.judge.specs.Cells.{idleCell, judgedCell, judgedCells}
+use Rattle.standings.specs.Places.{places, idleCell, changedCell, changed}
+use Rattle.standings.proofs.Places.{row-rest, rules-rest}
+use Rattle.judge.specs.Cells.{judgedAt, judgedCells}
 use Rattle.judge.proofs.ByColumn.{shown-activities}
-use Rattle.judge.proofs.Carried.{only-idle}
-use Rattle.judge.proofs.Places.{row-rest, rules-rest}
-use Rattle.judge.proofs.Rows.{Placed, ready-at, cell-is, idle-stays, cell-unused, within-arrays}
+use Rattle.declare.proofs.Carried.{only-idle}
+use Rattle.judge.proofs.Rows.{Placed, ready-at, judged-cell, idle-stays, cell-unused, within-arrays}
 use Rattle.judge.proofs.cells.judge_cells.Statement.{statement}
 use Rattle.judge.proofs.cells.judge_cells.Tie as tie
 
 abbrev Inv-loop : tie.InvT-loop
-Inv-loop running count n horizon rules events cells₀ rows places columns flags end j₀ cells j = (j ≤ rows * 256) × Swept (judgedCell running rules rows events places horizon) cells₀ cells j
+Inv-loop running n horizon table events cells₀ rows width columns flags end j₀ cells j = (j ≤ rows * mostEvents) × Swept (changedCell (judgedAt running table (take n events) horizon) rows width) cells₀ cells j
 
 abbrev μ-loop : tie.MeasureT-loop
-μ-loop running count n horizon rules events cells₀ rows places columns flags end j₀ cells j = rows * 256 - j
+μ-loop running n horizon table events cells₀ rows width columns flags end j₀ cells j = rows * mostEvents - j
 
-least-requires : tie.Need-least-requires Inv-loop μ-loop
-least-requires c κs = search needs
+min-requires : tie.Need-min-requires Inv-loop μ-loop
+min-requires c κs = search needs
 
-least-requires-2 : tie.Need-least-requires-2 Inv-loop μ-loop
-least-requires-2 c κs = search needs
+min-requires-2 : tie.Need-min-requires-2 Inv-loop μ-loop
+min-requires-2 c κs = search needs
 
 columns-of-requires : tie.Need-columns-of-requires Inv-loop μ-loop
 columns-of-requires c κs = search needs
 
 flags-of-requires : tie.Need-flags-of-requires Inv-loop μ-loop
 flags-of-requires c κs =
-    let rows = c .before .before .before .before .least in
-    let places = c .before .before .before .least2 in
-    (omega (arith, rows .ensures), omega (arith, places .ensures), shown-activities (c .before .before .columns-of .ensures))
+    let rows = c .before .before .before .before .min in
+    let width = c .before .before .before .min2 in
+    (omega (arith, rows .ensures), omega (arith, width .ensures), shown-activities (c .before .before .columns-of .ensures))
 
 mul-end : tie.Need-mul-end Inv-loop μ-loop
 mul-end c = search needs
@@ -48,15 +51,18 @@ loop-holds c = (omega arith, swept-none _ _)
 
 -- a place in use
 placed : (c : tie.Then1 Inv-loop μ-loop) → let s = c .before .before .before in
+    let a = s .before .before .before .before .before .before .args in
     let columns = s .before .before .before .columns-of .result in
-    Placed (columns .times) (columns .activities) (columns .readings) (s .flags-of .result) (s .before .before .before .before .before .before .args .t2) (s .before .before .before .before .before .least .result) (s .before .before .before .before .before .before .args .t4) (s .before .before .before .before .least2 .result) (c .before .before .loop .j)
+    Placed (columns .times) (columns .activities) (columns .numbers) (s .flags-of .result) (a .t2) (s .before .before .before .before .before .min .result) (a .t3) (a .n) (s .before .before .before .before .min2 .result) (c .before .before .loop .j)
 placed c =
     let s = c .before .before .before in
-    let places = s .before .before .before .before .least2 in
-    let rows = s .before .before .before .before .before .least in
+    let start = s .before .before .before .before .before .before in
+    let width = s .before .before .before .before .min2 in
+    let rows = s .before .before .before .before .before .min in
     record {
       few = omega (arith, rows .ensures);
-      high = omega (arith, places .ensures);
+      long = search (needs, start .good .1 .1 .0);
+      high = width .ensures;
       shows = s .before .before .before .columns-of .ensures;
       flagging = s .flags-of .ensures;
       used = c .before .loop-test .taken;
@@ -87,19 +93,18 @@ loop-again c =
     let l = here .before .before .loop in
     let start = here .before .before .before .before .before .before .before .before .before in
     let a = start .args in
-    let full : length (a .t7) ≡ 4096 = search (needs, start .good .1 .1 .1 .1 .1 .1 .0) in
-    let long : length (a .t4) ≡ 256 = search (needs, start .good .1 .1 .1 .0) in
+    let full : length (a .t6) ≡ places = search (needs, start .good .1 .1 .1 .1 .1 .0) in
     let both : (not (getD (here .before .before .before .flags-of .result) (l .j) false) ≡ true) × (c .before .is-idle .result ≡ true) = and₂ (c .if2 .taken) in (
       omega arith,
       swept-kept (l .inv .1) idleCell (omega arith)
-          (idle-stays (placed here) (not-true _ (both .0)) (a .running) (a .horizon) (getD (l .cells) (l .j) idleCell) (omega arith) (only-idle _ (sym (c .before .is-idle .ensures) ∙ both .1))),
+          (idle-stays (placed here) (a .running) (a .horizon) (getD (l .cells) (l .j) idleCell) (not-true _ (both .0)) (only-idle _ (sym (c .before .is-idle .ensures) ∙ both .1))),
     )
 
 mul-rule : tie.Need-mul-rule Inv-loop μ-loop
 mul-rule c = search needs
 
-array-copy-out-rule : tie.Need-array-copy-out-rule Inv-loop μ-loop
-array-copy-out-rule c = search needs
+element-copy-out-rule : tie.Need-element-copy-out-rule Inv-loop μ-loop
+element-copy-out-rule c = search needs
 
 mul-act : tie.Need-mul-act Inv-loop μ-loop
 mul-act c = search needs
@@ -107,12 +112,24 @@ mul-act c = search needs
 array-copy-out-act : tie.Need-array-copy-out-act Inv-loop μ-loop
 array-copy-out-act c = search needs
 
-sub-cell-after : tie.Need-sub-cell-after Inv-loop μ-loop
-sub-cell-after c = search needs
+sub-first : tie.Need-sub-first Inv-loop μ-loop
+sub-first c = search needs
 
-cell-after-requires : tie.Need-cell-after-requires Inv-loop μ-loop
+add-past : tie.Need-add-past Inv-loop μ-loop
+add-past c = search needs
+
+sub-judge : tie.Need-sub-judge Inv-loop μ-loop
+sub-judge c = search needs
+
+part-judge-start : tie.Need-part-judge-start Inv-loop μ-loop
+part-judge-start c = search needs
+
+part-judge-end : tie.Need-part-judge-end Inv-loop μ-loop
+part-judge-end c = search needs
+
+judge-requires : tie.Need-judge-requires Inv-loop μ-loop
 unfolding noRule noCondition noComparison noEvent
-cell-after-requires c κs = ready-at (placed (c .before .before .before .before .before .before .before .before .before .before))
+judge-requires c κs = ready-at (placed (c .before .before .before .before .before .before .before .before .before .before .before))
 
 mul-cells : tie.Need-mul-cells Inv-loop μ-loop
 mul-cells c = search needs
@@ -129,17 +146,12 @@ loop-less-2 c = search needs
 loop-again-2 : tie.Need-loop-again-2 Inv-loop μ-loop
 unfolding noRule noCondition noComparison noEvent
 loop-again-2 c =
-    let here = c .before .before .before .before .before .before .before .before .before .before .before in
+    let here = c .before .before .before .before .before .before .before .before .before .before .before .before in
     let l = here .before .before .loop in
     let start = here .before .before .before .before .before .before .before .before .before in
     let a = start .args in
-    let full : length (a .t7) ≡ 4096 = search (needs, start .good .1 .1 .1 .1 .1 .1 .0) in
-    let long : length (a .t4) ≡ 256 = search (needs, start .good .1 .1 .1 .0) in (
-      omega arith,
-      swept-again (l .inv .1) idleCell (omega arith)
-          (c .cell-after .ensures
-          ∙ cell-is (placed here) (a .running) (a .horizon) (getD (l .cells) (l .j) idleCell) (omega arith)),
-    )
+    let full : length (a .t6) ≡ places = search (needs, start .good .1 .1 .1 .1 .1 .0) in
+    (omega arith, swept-again (l .inv .1) idleCell (omega arith) (judged-cell (placed here) (a .running) (a .horizon) (getD (l .cells) (l .j) idleCell) (c .judge .ensures)))
 
 sub-j : tie.Need-sub-j Inv-loop μ-loop
 sub-j c = search needs
@@ -153,25 +165,25 @@ loop-less-3 c = search needs
 loop-again-3 : tie.Need-loop-again-3 Inv-loop μ-loop
 loop-again-3 c = let at = c .before .before in
     let l = at .loop in
-    let rows = at .before .before .before .before .before .before .least in
-    let places = at .before .before .before .before .before .least2 in
-    (omega arith, swept-skip (l .inv .1) _ (omega arith) (λ i b d x. cell-unused _ _ _ _ _ _ i x (row-rest (rows .result) (places .result) (l .j) i (omega arith) b d)))
+    let rows = at .before .before .before .before .before .before .min in
+    let width = at .before .before .before .before .before .min2 in
+    (omega arith, swept-skip (l .inv .1) _ (omega arith) (λ i b d x. cell-unused _ _ _ i x (row-rest (rows .result) (width .result) (l .j) i (omega arith) b d)))
 
 returns : tie.Need-returns Inv-loop μ-loop
-unfolding judgedCells
+unfolding judgedCells changed
 returns c =
     let at = c .before in
     let l = at .loop in
-    let places = at .before .before .before .before .before .least2 in
-    let rows = at .before .before .before .before .before .before .least in
+    let width = at .before .before .before .before .before .min2 in
+    let rows = at .before .before .before .before .before .before .min in
     let start = at .before .before .before .before .before .before .before in
     let a = start .args in
-    let long : length (a .t4) ≡ 256 = search (needs, start .good .1 .1 .1 .0) in
-    let full : length (a .t7) ≡ 4096 = search (needs, start .good .1 .1 .1 .1 .1 .1 .0) in
-    let few : rows .result ≤ 16 = omega (arith, rows .ensures) in
-    swept-all (swept-skip (l .inv .1) 4096 (omega arith) (λ i b d x. cell-unused _ _ _ _ _ _ i x (rules-rest (rows .result) (places .result) i (omega arith)))) (omega arith)
-    ∙ ap₂ (λ (x y : ℕ). judgedCells (a .running) (a .t2) x (a .t4) y (a .horizon) (a .t7)) (rows .ensures) (places .ensures)
-    ∙ within-arrays (a .running) (a .t2) (a .count) (a .t4) (a .n) (a .horizon) long (a .t7) full
+    let full : length (a .t6) ≡ places = search (needs, start .good .1 .1 .1 .1 .1 .0) in
+    let few : rows .result ≤ mostRules = omega (arith, rows .ensures) in
+    let f : ℕ → ℕ → Standing → Standing = judgedAt (a .running) (a .t2) (take (a .n) (a .t3)) (a .horizon) in
+    swept-all (swept-skip (l .inv .1) places (omega arith) (λ i b d x. cell-unused _ _ _ i x (rules-rest (rows .result) (width .result) i (omega arith)))) (omega arith)
+    ∙ ap₂ (λ (x y : ℕ). changed f x y (a .t6)) (rows .ensures) (width .ensures)
+    ∙ within-arrays f (a .t2 .count) (a .n) (a .t6) full
 
 pub judge-cells-spec : {M : Type 1} → statement M
 judge-cells-spec =
@@ -179,8 +191,8 @@ judge-cells-spec =
     (tie.spec
     Inv-loop
     μ-loop
-    least-requires
-    least-requires-2
+    min-requires
+    min-requires-2
     columns-of-requires
     flags-of-requires
     mul-end
@@ -193,11 +205,15 @@ judge-cells-spec =
     loop-less
     loop-again
     mul-rule
-    array-copy-out-rule
+    element-copy-out-rule
     mul-act
     array-copy-out-act
-    sub-cell-after
-    cell-after-requires
+    sub-first
+    add-past
+    sub-judge
+    part-judge-start
+    part-judge-end
+    judge-requires
     mul-cells
     array-set-from-cells
     add-j-2

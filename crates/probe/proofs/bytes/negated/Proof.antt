@@ -1,12 +1,11 @@
 -- The magnitude of a number below zero.
 use mathlib.Core.Path.{_≡_}
-use mathlib.Core.Bool.{true, false}
-use lib.IntN.{pos}
+use mathlib.Core.Bool.{true}
+use lib.IntN.{pos, _-ℤ_}
 use lib.Signed.{ltZ}
 use mir.Syntax.{w32, w64}
 use mir.Val.{toZ, ofZ}
 use mir.Facts.{toZ-ofZ}
-use lib.IntN.{_-ℤ_}
 use Rattle.condition.proofs.Widen.{widens, widened}
 use Rattle.probe.proofs.Casts.{minus-fits, magnitude-fits}
 use borrow.Author.Needs.{needs}

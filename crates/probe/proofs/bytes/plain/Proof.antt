@@ -1,9 +1,9 @@
 -- A number that is not below zero is its own magnitude.
 use mathlib.Core.Path.{_≡_}
-use mathlib.Core.Bool.{true, false}
+use mathlib.Core.Bool.{false}
 use lib.IntN.{pos}
 use lib.Signed.{ltZ}
-use mir.Syntax.{w32, w64}
+use mir.Syntax.{w32}
 use mir.Val.{toZ, ofZ}
 use Rattle.probe.proofs.Casts.{plain-fits}
 use borrow.Author.Needs.{needs}

@@ -1,6 +1,6 @@
 -- A walk of the MIR, by hand. The tally is copied into a local, and the local is lent to
 -- `tally::absorb` for a lifetime that is made for the call. Once that lifetime has ended, the local
--- holds the reference's last value, and the sum is made of it and the answer.
+-- holds the reference's last value, and the sum is made of it and the outcome.
 -- All that the proof knows of `tally::absorb` is that it meets its contract.
 use mathlib.Core.Path.{refl, ap, subst}
 use Prim.Native.Nat.{ℕ}
@@ -41,14 +41,14 @@ use denote.Triple.Table.{entered, cited}
 use denote.Triple.Walked.{says, Stays, stay-none, walkOf, AllGo, goes-none, Walks, ends-at, walked, walk-meets}
 use denote.Exit.{yes}
 use Rattle.tally.specs.declared.Tally.{Tally}
-use Rattle.tally.specs.declared.Answer.{Answer}
+use Rattle.tally.specs.declared.Outcome.{Outcome}
 use Rattle.tally.specs.declared.Counted.{Counted}
 use Rattle.tally.specs.declared.Sum.{Sum}
 use Rattle.tally.specs.Tally.{Absorbs}
 use Rattle.tally.proofs.Tally as T
 use Rattle.tally.proofs.Tally.Laws as T′
-use Rattle.tally.proofs.Answer as E
-use Rattle.tally.proofs.Answer.Laws as E′
+use Rattle.tally.proofs.Outcome as E
+use Rattle.tally.proofs.Outcome.Laws as E′
 use Rattle.tally.proofs.Counted as K
 use Rattle.tally.proofs.Counted.Laws as K′
 use Rattle.tally.proofs.Sum as S
@@ -75,18 +75,18 @@ tallyVal = LL.val T.the-type T′.the-laws
 abbrev countedVal : Counted → Val
 countedVal = LL.val K.the-type K′.the-laws
 
-abbrev answerVal : Answer → Val
-answerVal = EL.val E.the-type E′.the-laws
+abbrev outcomeVal : Outcome → Val
+outcomeVal = EL.val E.the-type E′.the-laws
 
 abbrev sumVal : Sum → Val
 sumVal = LL.val S.the-type S′.the-laws
 
-abbrev sum : Tally → Answer → Sum
-sum t r = record { tally = t; answer = r }
+abbrev sum : Tally → Outcome → Sum
+sum t r = record { tally = t; outcome = r }
 
--- what whoever holds a Tally and an Answer knows of the Sum of them
-is-sum : (t : Tally) (r : Answer) (w : Val) → Is T.the-row t (tallyVal t ∷ []) → Is E.the-row r (w ∷ []) → Is S.the-row (sum t r) (sumVal (sum t r) ∷ [])
-is-sum t r w of-tally of-answer = LL.owes S.the-type S′.the-laws (sum t r) (of-tally, (subst (Is E.the-row r) (EL.tells E.the-type E′.the-laws r (w ∷ []) of-answer) of-answer, tt))
+-- what whoever holds a Tally and an Outcome knows of the Sum of them
+is-sum : (t : Tally) (r : Outcome) (w : Val) → Is T.the-row t (tallyVal t ∷ []) → Is E.the-row r (w ∷ []) → Is S.the-row (sum t r) (sumVal (sum t r) ∷ [])
+is-sum t r w of-tally of-outcome = LL.owes S.the-type S′.the-laws (sum t r) (of-tally, (subst (Is E.the-row r) (EL.tells E.the-type E′.the-laws r (w ∷ []) of-outcome) of-outcome, tt))
 
 module _ {M : Type 1} (𝓤 : URA M) (H : Heap 𝓤) (A : Atoms 𝓤) (mem : Memory → SProp 𝓤) (run : Routine → Fun 𝓤) where
   -- the contract that the proof cites
@@ -103,7 +103,7 @@ module _ {M : Type 1} (𝓤 : URA M) (H : Heap 𝓤) (A : Atoms 𝓤) (W : Given
   abbrev Post : Val → SProp 𝓤
   Post = walkOf 𝓤 H A in-place.ended stayed (in-place.clauses 𝓤 H A at-mem run) .post ((tt, tt, tt, x, at), tt)
 
-  exits : (s : Sum) → Absorbs h c (s .tally) (s .answer) → Is S.the-row s (sumVal s ∷ []) → ent 𝓤 (emp 𝓤) (Post (sumVal s))
+  exits : (s : Sum) → Absorbs h c (s .tally) (s .outcome) → Is S.the-row s (sumVal s ∷ []) → ent 𝓤 (emp 𝓤) (Post (sumVal s))
   exits s e is =
       qed W [] ∵ suffices ! _ (ends-at 𝓤 H A in-place.ended stayed (in-place.clauses 𝓤 H A at-mem run) W ((tt, tt, tt, x, at), tt) (sumVal s) s (tt, (tt, tt)) (tt, (tt, tt))) $ says ! e $
       owned ! S.the-row (Is S.the-row) (LL.makes S.the-type S′.the-plain 𝓤 H A) s _ is $ nothing ! $ owned ! K.the-row (Is K.the-row) (LL.makes K.the-type K′.the-plain 𝓤 H A) c _ is-counted $ fjoin ! $
@@ -142,24 +142,24 @@ module _ {M : Type 1} (𝓤 : URA M) (H : Heap 𝓤) (A : Atoms 𝓤) (W : Given
         move ! (2 ∷ 0 ∷ []) $ use2 W (raw (Callee 𝓤 H A at-mem run .pre (to-absorb α l₃ δ))) (goes-absorb α l₃ δ) $
         -- [pre; the lender's part; _6; …; _5; …; _4; …; …; _2; …; _1; …; room for _0; …]
         calls-at ! fm (Callee 𝓤 H A at-mem run) known (to-absorb α l₃ δ) (and-then ! (load ! (from ! (stop !)) (look ! 4 refl)) (and-then ! (load ! (from ! (stop !)) (look ! 9 refl)) (no-more !))) (λ w.
-        use1 W (later (some (λ (r : Answer). ((‵ (flft (α ∷ []) fullShare) ⊛ ‵ ftrue) ⊛ ‵ (E.the-row .own r (w ∷ []))) ⊛ raw (ensured 𝓤 H A absorb.ended (absorb.clauses 𝓤 H A at-mem run) (α ∷ [], tt) (lent l₃ δ, (c, tt)) tt r)))) (id⊢ 𝓤 _) $ await ! tt $ pick ! (λ r.
+        use1 W (later (some (λ (r : Outcome). ((‵ (flft (α ∷ []) fullShare) ⊛ ‵ ftrue) ⊛ ‵ (E.the-row .own r (w ∷ []))) ⊛ raw (ensured 𝓤 H A absorb.ended (absorb.clauses 𝓤 H A at-mem run) (α ∷ [], tt) (lent l₃ δ, (c, tt)) tt r)))) (id⊢ 𝓤 _) $ await ! tt $ pick ! (λ r.
         -- what `absorb` ensures, at some last tally
         split ! $ move ! (1 ∷ []) $ use1 W (some (λ (ws : Tally × (Unit {0} × Unit {0})). ‵ (lasts absorb.ended (α ∷ [], tt) (lent l₃ δ, (c, tt)) ws) ⊛ raw (fact 𝓤 (Absorbs h c (ws .0) r)))) (id⊢ 𝓤 _) $ pick ! (λ ws.
-        split ! $ move ! (1 ∷ []) $ heard ! (Absorbs h c (ws .0) r) (λ e. fsplit ! $ move ! (2 ∷ []) $ split ! $ move ! (1 ∷ []) $ peeks ! E.the-row (Is E.the-row) (shows 𝓤 H A E.the-row) r (w ∷ []) (λ is-answer.
-        -- [what an Answer owns; the token; the last tally; …; the lender's part;
+        split ! $ move ! (1 ∷ []) $ heard ! (Absorbs h c (ws .0) r) (λ e. fsplit ! $ move ! (2 ∷ []) $ split ! $ move ! (1 ∷ []) $ peeks ! E.the-row (Is E.the-row) (shows 𝓤 H A E.the-row) r (w ∷ []) (λ is-outcome.
+        -- [what an Outcome owns; the token; the last tally; …; the lender's part;
         -- _6; …; _5; …; _4; …; …; _2; …; _1; …; room for _0; …]
-        land ! (from ! (stop !)) (init ! 9 refl (EL.lawful E.the-type E′.the-laws 𝓤 H A W tt .typed r _ is-answer .0)) $
-        rewrite ! 9 (λ (u : Val). ‵ (fat fullShare E′.mir l₄ 0 u)) (ap only (EL.tells E.the-type E′.the-laws r (w ∷ []) is-answer)) refl $
+        land ! (from ! (stop !)) (init ! 9 refl (EL.lawful E.the-type E′.the-laws 𝓤 H A W tt .typed r _ is-outcome .0)) $
+        rewrite ! 9 (λ (u : Val). ‵ (fat fullShare E′.mir l₄ 0 u)) (ap only (EL.tells E.the-type E′.the-laws r (w ∷ []) is-outcome)) refl $
         -- the lifetime is ended, and _3 comes back at the last tally
         move ! (1 ∷ []) $ split ! $ lft-end ! tt $ move ! (0 ∷ 5 ∷ 3 ∷ []) $ use3 W (later (‵ (partAt T.the-row fullShare (ws .0) l₃ 0))) (ref-back 𝓤 H A W T.the-row (α ∷ []) δ (ws .0) l₃ 0) $ await ! tt $ fpick ! (λ vs. fsplit ! $
         spelt ! T.the-row (Is T.the-row) (shows 𝓤 H A T.the-row) (LL.vals T.the-type T′.the-laws) (LL.tells T.the-type T′.the-laws) fullShare (ws .0) vs l₃ 0 $ use1 W (‵ (fat fullShare T′.mir l₃ 0 (tallyVal (ws .0)))) (W .laws .raw-at fullShare T′.mir l₃ 0 (tallyVal (ws .0))) $
         move ! (1 ∷ []) $ peeks ! T.the-row (Is T.the-row) (shows 𝓤 H A T.the-row) (ws .0) (tallyVal (ws .0) ∷ []) (λ is-last.
         -- [what a Tally owns; _3; …; …; …; _6; …; _5; …; _4; …; …; _2; …; _1; …; room for _0; …]
         assigns ! (of-opd ! (load ! (from ! (stop !)) (look ! 1 refl))) (from ! (stop !)) (init ! 5 refl (LL.lawful T.the-type T′.the-laws 𝓤 H A W .typed (ws .0) _ is-last .0)) $
-        assigns ! (agg ! (and-then ! (load ! (from ! (stop !)) (look ! 5 refl)) (and-then ! (load ! (from ! (stop !)) (look ! 9 refl)) (no-more !)))) (from ! (stop !)) (init ! 16 refl (LL.lawful S.the-type S′.the-laws 𝓤 H A W .typed (sum (ws .0) r) _ (is-sum (ws .0) r w is-last is-answer) .0)) $
+        assigns ! (agg ! (and-then ! (load ! (from ! (stop !)) (look ! 5 refl)) (and-then ! (load ! (from ! (stop !)) (look ! 9 refl)) (no-more !)))) (from ! (stop !)) (init ! 16 refl (LL.lawful S.the-type S′.the-laws 𝓤 H A W .typed (sum (ws .0) r) _ (is-sum (ws .0) r w is-last is-outcome) .0)) $
         returns ! (look ! 16 refl) $ forget ! 1 refl $ forget ! 5 refl $ forget ! 7 refl $ forget ! 9 refl $ forget ! 12 refl $ forget ! 14 refl $ forget ! 16 refl $
         move ! (16 ∷ 17 ∷ []) $ free1 ! $ move ! (14 ∷ 15 ∷ []) $ free1 ! $ move ! (12 ∷ 13 ∷ []) $ free1 ! $ move ! (1 ∷ 11 ∷ []) $ free1 ! $ move ! (8 ∷ 9 ∷ []) $ free1 ! $ move ! (6 ∷ 7 ∷ []) $ free1 ! $ move ! (4 ∷ 5 ∷ []) $ free1 ! $ free0 ! $
-        keep ! [] $ by ! (exits (sum (ws .0) r) e (is-sum (ws .0) r w is-last is-answer))))))))))))))))))
+        keep ! [] $ by ! (exits (sum (ws .0) r) e (is-sum (ws .0) r w is-last is-outcome))))))))))))))))))
 
 module _ {M : Type 1} (𝓤 : URA M) (H : Heap 𝓤) (A : Atoms 𝓤) (W : Given 𝓤 H A) (mem : Memory → SProp 𝓤) (run : Routine → Fun 𝓤) where
   in-place-walks : (C : Calls 𝓤 H) (Λ : Loops 𝓤 H) → FmC 𝓤 H (W .laws) C → Triple 𝓤 (C #tally·absorb) (Callee 𝓤 H A mem run) → Walks 𝓤 H A in-place.ended stayed (WpFn 𝓤 H C Λ code.function) (in-place.clauses 𝓤 H A mem run)

@@ -1,9 +1,8 @@
 -- The bytes keep their length.
 use borrow.Author.Needs.{needs}
 use mathlib.Core.Path.{_≡_}
-use Prim.Native.Nat.{_+_, _-_, _*_, _≤_, _<_}
-use native.Mathlib.Omega.{arith}
-use lib.ListN.{length, length-set}
+use Prim.Native.Nat.{_-_, _≤_}
+use lib.ListN.{length}
 use Rattle.probe.proofs.dump.row_bytes.Statement.{statement}
 use Rattle.probe.proofs.dump.row_bytes.Tie as tie
 

@@ -1,14 +1,15 @@
 -- A loop over the slots.
 use borrow.Author.Needs.{needs}
 use Prim.Native.Nat.{_-_, _≤_}
+use Rattle.declare.specs.Limits.{mostEvents}
 use Rattle.probe.proofs.dump.write_events.Statement.{statement}
 use Rattle.probe.proofs.dump.write_events.Tie as tie
 
 abbrev Inv-loop : tie.InvT-loop
-Inv-loop events p₀ p = p ≤ 256
+Inv-loop events p₀ p = p ≤ mostEvents
 
 abbrev μ-loop : tie.MeasureT-loop
-μ-loop events p₀ p = 256 - p
+μ-loop events p₀ p = mostEvents - p
 
 loop-holds : tie.Need-loop-holds Inv-loop μ-loop
 loop-holds c = search needs

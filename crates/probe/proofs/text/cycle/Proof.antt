@@ -4,15 +4,6 @@ use lib.Seq.{length-take-le}
 use borrow.Author.Needs.{needs}
 use Rattle.probe.proofs.text.cycle.Statement.{statement}
 use Rattle.probe.proofs.text.cycle.Tie as tie
-use Rattle.probe.proofs.text.cycle.Reads as reads
-use Rattle.probe.proofs.text.cycle.Lts as lts
-use Rattle.io.proofs.large_buffer.Reads as large-buffer-reads
-use Rattle.probe.proofs.answer.accepted.Reads as accepted-reads
-use Rattle.probe.proofs.command.number.Reads as number-reads
-use Rattle.probe.proofs.dump.least.Reads as least-reads
-use Rattle.probe.proofs.text.read_cycle.Reads as read-cycle-reads
-use Rattle.probe.proofs.text.refused.Reads as refused-reads
-use Rattle.probe.proofs.text.with_events.Reads as with-events-reads
 
 -- src/text.rt:63:19
 number-requires : tie.Need-number-requires

@@ -4,17 +4,6 @@ use lib.Seq.{length-take-le}
 use borrow.Author.Needs.{needs}
 use Rattle.probe.proofs.text.notebook.Statement.{statement}
 use Rattle.probe.proofs.text.notebook.Tie as tie
-use Rattle.probe.proofs.text.notebook.Reads as reads
-use Rattle.probe.proofs.text.notebook.Lts as lts
-use Rattle.io.proofs.large_buffer.Reads as large-buffer-reads
-use Rattle.probe.proofs.answer.accepted.Reads as accepted-reads
-use Rattle.probe.proofs.command.high_half.Reads as high-half-reads
-use Rattle.probe.proofs.command.index.Reads as index-reads
-use Rattle.probe.proofs.command.low_half.Reads as low-half-reads
-use Rattle.probe.proofs.dump.least.Reads as least-reads
-use Rattle.probe.proofs.text.read_notebook.Reads as read-notebook-reads
-use Rattle.probe.proofs.text.refused.Reads as refused-reads
-use Rattle.probe.proofs.text.text_number.Reads as text-number-reads
 
 -- src/text.rt:93:34
 low-half-requires : tie.Need-low-half-requires

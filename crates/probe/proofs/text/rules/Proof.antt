@@ -4,14 +4,6 @@ use lib.Seq.{length-take-le}
 use borrow.Author.Needs.{needs}
 use Rattle.probe.proofs.text.rules.Statement.{statement}
 use Rattle.probe.proofs.text.rules.Tie as tie
-use Rattle.probe.proofs.text.rules.Reads as reads
-use Rattle.probe.proofs.text.rules.Lts as lts
-use Rattle.io.proofs.large_buffer.Reads as large-buffer-reads
-use Rattle.probe.proofs.answer.accepted.Reads as accepted-reads
-use Rattle.probe.proofs.command.number.Reads as number-reads
-use Rattle.probe.proofs.dump.least.Reads as least-reads
-use Rattle.probe.proofs.text.read_rules.Reads as read-rules-reads
-use Rattle.probe.proofs.text.refused.Reads as refused-reads
 
 -- src/text.rt:28:19
 number-requires : tie.Need-number-requires

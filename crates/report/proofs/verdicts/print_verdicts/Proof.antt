@@ -1,11 +1,12 @@
 -- The bound on the rules keeps the rule's number in range.
 use borrow.Author.Needs.{needs}
 use Prim.Native.Nat.{_-_, _≤_}
+use Rattle.declare.specs.Limits.{mostRules, mostEvents}
 use Rattle.report.proofs.verdicts.print_verdicts.Statement.{statement}
 use Rattle.report.proofs.verdicts.print_verdicts.Tie as tie
 
 abbrev Inv-loop : tie.InvT-loop
-Inv-loop run rules count k₀ k = (k ≤ rules) × (rules ≤ 16) × (count ≤ 256)
+Inv-loop run rules count k₀ k = (k ≤ rules) × (rules ≤ mostRules) × (count ≤ mostEvents)
 
 abbrev μ-loop : tie.MeasureT-loop
 μ-loop run rules count k₀ k = rules - k

@@ -3,9 +3,9 @@ use mathlib.Core.Path.{_≡_, sym, _∙_, ap}
 use Prim.Native.Nat.{_+_, _-_}
 use native.Mathlib.Omega.{arith}
 use borrow.Author.Tests.{eq-eqb, ne-eqb, not-true, not-false}
-use lib.ListN.{getD, drop, length, length-drop}
+use lib.ListN.{getD, drop, length-drop}
 use Rattle.declare.specs.Refusals.{numberOf}
-use Rattle.line.specs.Answers.{Of}
+use Rattle.declare.specs.Answers.{accepted}
 use mir.Syntax.{w32}
 use mir.Facts.{toZ-ofZ}
 use borrow.Author.Needs.{needs, sfits-of}
@@ -19,7 +19,7 @@ use Rattle.rule_text.proofs.comparison.activation.Tie as tie
 start : tie.Else2 → tie.Start
 start c = c .before .before .before .before .before .before
 
-digit : (c : tie.Else1) → digitOf (getD (c .before .before .before .before .args .part .now) 0 0) ≡ Of (c .before .before .byte-at .result - 48)
+digit : (c : tie.Else1) → digitOf (getD (c .before .before .before .before .args .part .now) 0 0) ≡ accepted (c .before .before .byte-at .result - 48)
 digit c =
     rw (← c .before .before .byte-at .ensures) (digit-is _ (sym (c .before .is-reading .ensures) ∙ not-false _ (c .if1 .left)))
 
@@ -32,7 +32,7 @@ part c x p =
     activation-part s _ (digit (c .before .before .before .before)) (eq-eqb (getD s 1 0) 58 (sym (c .before .before .before .byte-at2 .ensures) ∙ c .before .before .if2 .left))
     ∙ rw e
 
-k-read : (c : tie.After-value) → upToComma kField (drop 2 (start (c .before .before .before .before) .args .part .now)) ≡ Of (record { value = c .value .given .0 .0; length = c .value .given .0 .1 .0 })
+k-read : (c : tie.After-value) → upToComma kField (drop 2 (start (c .before .before .before .before) .args .part .now)) ≡ accepted (record { value = c .value .given .0 .0; length = c .value .given .0 .1 .0 })
 unfolding start kRead
 k-read c = rw (← c .before .before .before .part-from .ensures) (sym (c .before .before .k-field .ensures) ∙ ap kRead (c .value .given .1))
 

@@ -3,9 +3,9 @@ use mathlib.Core.Path.{_≡_, sym, _∙_, ap}
 use Prim.Native.Nat.{_+_, _-_}
 use native.Mathlib.Omega.{arith}
 use borrow.Author.Tests.{not-true, not-false}
-use lib.ListN.{getD, drop, length, length-drop}
+use lib.ListN.{getD, drop, length-drop}
 use Rattle.declare.specs.Refusals.{numberOf}
-use Rattle.line.specs.Answers.{Of}
+use Rattle.declare.specs.Answers.{accepted}
 use Rattle.rule_text.specs.Types.{ReferenceAnswer}
 use Rattle.rule_text.specs.Comparisons.{digitOf, operatorOf, referenceField, comparisonField}
 use Rattle.rule_text.specs.Reads.{upToComma, operatorRead, referenceRead, comparisonRead}
@@ -17,7 +17,7 @@ use Rattle.rule_text.proofs.comparison.comparison.Tie as tie
 start : tie.After-operator-of → tie.Start
 start c = c .before .before .before .before .before .before
 
-digit : (c : tie.Else1) → digitOf (getD (c .before .before .before .before .args .part .now) 0 0) ≡ Of (c .before .before .byte-at .result - 48)
+digit : (c : tie.Else1) → digitOf (getD (c .before .before .before .before .args .part .now) 0 0) ≡ accepted (c .before .before .byte-at .result - 48)
 digit c =
     rw (← c .before .before .byte-at .ensures) (digit-is _ (sym (c .before .is-reading .ensures) ∙ not-false _ (c .if1 .left)))
 
@@ -38,7 +38,7 @@ part c x p =
     comparison-part (a .correlation) (a .part .now) _ (digit (o .before .before)) _ (operator-is o ∙ ap operatorRead (c .before .before .before .operator .given .1))
     ∙ rw e
 
-reference-read : (c : tie.After-reference2) → upToComma (referenceField (start (before-reference (c .before .before)) .args .correlation)) (drop 2 (start (before-reference (c .before .before)) .args .part .now)) ≡ Of (record { value = c .reference2 .given .0 .0; length = c .reference2 .given .0 .1 .0 })
+reference-read : (c : tie.After-reference2) → upToComma (referenceField (start (before-reference (c .before .before)) .args .correlation)) (drop 2 (start (before-reference (c .before .before)) .args .part .now)) ≡ accepted (record { value = c .reference2 .given .0 .0; length = c .reference2 .given .0 .1 .0 })
 unfolding start before-reference referenceRead
 reference-read c = rw (← c .before .before .before .part-from .ensures) (sym (c .before .before .reference .ensures) ∙ ap referenceRead (c .reference2 .given .1))
 

@@ -1,4 +1,5 @@
--- `comparison::k_field`: the number reader's answer for the bytes before the comma is document 01's, and the scan has their length.
+-- `comparison::k_field`: the number reader's answer for the bytes before the comma is document
+-- 01's, and the scan has their length.
 use mathlib.Core.Path.{_≡_, sym, _∙_, ap}
 use mathlib.Core.List.{List}
 use Prim.Native.Nat.{ℕ}
@@ -9,7 +10,7 @@ use Rattle.number.specs.Number.{integerOf}
 use Rattle.number.specs.Reader.{integerIn}
 use Rattle.number.proofs.Answers.{answers}
 use Rattle.line.specs.Fields.{indexOf, before}
-use Rattle.line.specs.Answers.{_>>=_}
+use Rattle.declare.specs.Answers.{_>>=_}
 use Rattle.line.specs.Scans.{fieldScan}
 use Rattle.line.specs.declared.FieldScan.{FieldScan}
 use Rattle.rule_text.specs.Conditions.{comma}

@@ -3,9 +3,9 @@ use mathlib.Core.Path.{_≡_, sym, _∙_, ap}
 use Prim.Native.Nat.{_+_}
 use native.Mathlib.Omega.{arith}
 use borrow.Author.Tests.{eq-eqb, ne-eqb, not-true, not-false}
-use lib.ListN.{getD, drop, length, length-drop}
+use lib.ListN.{getD, drop, length-drop}
 use Rattle.declare.specs.Refusals.{numberOf}
-use Rattle.line.specs.Answers.{Of}
+use Rattle.declare.specs.Answers.{accepted}
 use Rattle.rule_text.specs.Types.{ReferenceAnswer}
 use Rattle.rule_text.specs.Comparisons.{activationField, referenceField}
 use Rattle.rule_text.specs.Reads.{upToComma, referenceRead}
@@ -26,7 +26,7 @@ part c x p =
     reference-part (a .part .now) (a .correlation) (not-false (a .correlation) (c .before .before .if2 .left)) (eq-eqb (getD (a .part .now) 0 0) 64 (sym (c .before .before .before .before .byte-at .ensures) ∙ c .before .before .before .if1 .left))
     ∙ rw e
 
-reference-read : (c : tie.After-reference) → upToComma activationField (drop 1 (start (c .before .before .before .before) .args .part .now)) ≡ Of (record { value = c .reference .given .0 .0; length = c .reference .given .0 .1 .0 })
+reference-read : (c : tie.After-reference) → upToComma activationField (drop 1 (start (c .before .before .before .before) .args .part .now)) ≡ accepted (record { value = c .reference .given .0 .0; length = c .reference .given .0 .1 .0 })
 unfolding start referenceRead
 reference-read c = rw (← c .before .before .before .part-from .ensures) (sym (c .before .before .activation .ensures) ∙ ap referenceRead (c .reference .given .1))
 

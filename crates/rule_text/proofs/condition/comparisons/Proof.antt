@@ -1,5 +1,6 @@
--- `condition::comparisons`: at each turn the whole field gives what its comparisons from `at` on give after those held.
--- Those held are of different readings, so that there is a slot for one more.
+-- `condition::comparisons`: at each turn the whole field gives what its comparisons from `at` on
+-- give after those held. Those held are of different readings, so that there is a slot for one
+-- more.
 use mathlib.Core.Path.{_≡_, refl, sym, _∙_, ap}
 use mathlib.Core.Bool.{Bool, true, false}
 use mathlib.Core.List.{List, [], _∷_, _++_}
@@ -10,13 +11,13 @@ use Rattle.declare.specs.Conditions.{comparisonsOf}
 use Rattle.declare.specs.Refusals.{numberOf}
 use Rattle.declare.specs.Rules.{isReading, noCondition}
 use Rattle.line.specs.Fields.{indexOf, before, split}
-use Rattle.line.specs.Answers.{Of, _>>=_}
+use Rattle.declare.specs.Answers.{accepted, _>>=_}
 use Rattle.line.proofs.Fields.{part-rest}
 use Rattle.rule_text.specs.Types.{Comparison, Condition, ComparisonAnswer, Compared}
 use Rattle.rule_text.specs.Comparisons.{comparisonField}
 use Rattle.rule_text.specs.Conditions.{comma, tested, comparisonsAfter, conditionOf, comparisonsField}
 use Rattle.rule_text.specs.Reads.{upToComma, comparisonRead, conditionRead}
-use Rattle.rule_text.proofs.Comparisons.{measured, length-le, refused}
+use Rattle.rule_text.proofs.Comparisons.{measured, length-le, comma-refused}
 use Rattle.rule_text.proofs.ComparisonTexts.{comparison-reading}
 use Rattle.rule_text.proofs.Conditions.{Distinct, distinct-none, distinct-more, room, comparisons-slots, fieldsAt, fields-start, fields-end, fields-next, after-refused, after-twice, after-next}
 use borrow.Author.Needs.{needs}
@@ -69,11 +70,11 @@ count-is c = ap (λ (x : Condition). x .count) (c .before .before .before .loop 
 
 -- a comparison that was read
 module _ (c : Read) (d : Comparison) (n : ℕ) (h : c .comparison .result ≡ Compared d n) where
-  whole : upToComma (comparisonField (correlation-of c)) (left c) ≡ Of (record { value = d; length = n })
+  whole : upToComma (comparisonField (correlation-of c)) (left c) ≡ accepted (record { value = d; length = n })
   unfolding comparisonRead
   whole = comparison-is c (Compared d n) h
 
-  holds : comparisonField (correlation-of c) (before comma (left c)) ≡ Of d
+  holds : comparisonField (correlation-of c) (before comma (left c)) ≡ accepted d
   holds = measured (comparisonField (correlation-of c)) (left c) (record { value = d; length = n }) whole .0
 
   length-is : indexOf comma (left c) ≡ n
@@ -120,7 +121,7 @@ returns : tie.Need-returns Inv-loop μ-loop
 unfolding comparisonsField conditionRead comparisonRead _>>=_
 returns c =
     let k = c .before .before .before in
-    let r = refused (comparisonField (correlation-of k)) (left k) _ (comparison-is k _ (c .before .cause .given .1)) in
+    let r = comma-refused (comparisonField (correlation-of k)) (left k) _ (comparison-is k _ (c .before .cause .given .1)) in
     sym (rw (by-comparison k ∙ after-refused (correlation-of k) (held k) (before comma (left k)) _ _ r))
 
 enum-known-next : tie.Need-enum-known-next Inv-loop μ-loop
@@ -175,8 +176,8 @@ unfolding comparisonsField comparisonsAfter conditionRead _>>=_
 returns-3 c =
     let o = c .before .loop in
     let a = c .before .before .before .before .args in
-    let e : comparisonsAfter (a .correlation) [] (split comma (a .field .now)) ≡ Of (comparisonsOf (o .condition)) = o .inv .3 ∙ rw (fields-end (a .field .now) (o .at) (c .loop-test .left)) in
-    ap Of (o .inv .1) ∙ sym (rw e)
+    let e : comparisonsAfter (a .correlation) [] (split comma (a .field .now)) ≡ accepted (comparisonsOf (o .condition)) = o .inv .3 ∙ rw (fields-end (a .field .now) (o .at) (c .loop-test .left)) in
+    ap accepted (o .inv .1) ∙ sym (rw e)
 
 pub comparisons-spec : {M : Type 1} → statement M
 comparisons-spec =

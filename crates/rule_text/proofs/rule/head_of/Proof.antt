@@ -1,8 +1,8 @@
 -- `rule::head_of`: the first refusal, or all five values.
 use mathlib.Core.Path.{ap}
-use Rattle.line.specs.Answers.{_>>=_}
-use Rattle.line.specs.Values.{numberRead}
-use Rattle.rule_text.specs.Reads.{byteRead, endRead, headRead, headBy}
+use Rattle.declare.specs.Answers.{_>>=_}
+use Rattle.line.specs.Values.{numberRead, byteRead}
+use Rattle.rule_text.specs.Reads.{endRead, headRead, headBy}
 use borrow.Author.Needs.{needs}
 use Rattle.rule_text.proofs.rule.head_of.Statement.{statement}
 use Rattle.rule_text.proofs.rule.head_of.Tie as tie

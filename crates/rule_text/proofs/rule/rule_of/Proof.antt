@@ -2,7 +2,7 @@
 use mathlib.Core.Path.{sym, _∙_, ap}
 use borrow.Author.Tests.{not-true, not-false}
 use Rattle.declare.specs.Refusals.{numberOf}
-use Rattle.line.specs.Answers.{_>>=_, _>>_, require}
+use Rattle.declare.specs.Answers.{_>>=_, _>>_, require}
 use Rattle.rule_text.specs.Reads.{conditionRead, headRead, ruleRead, ruleBy}
 use borrow.Author.Needs.{needs}
 use Rattle.rule_text.proofs.rule.rule_of.Statement.{statement}

@@ -2,12 +2,11 @@
 use mathlib.Core.Path.{_≡_, sym, _∙_}
 use mathlib.Core.Bool.{true, _&&_}
 use borrow.Author.Tests.{not-true, not-false}
-use Rattle.judge.specs.Cells.{standingIn}
-use Rattle.run.specs.Replies.{standingReply}
+use Rattle.declare.specs.Refusals.{numberOf}
+use Rattle.declare.proofs.Answers.{passed, stopped}
+use Rattle.run.specs.Answers.{standingAnswer}
 use Rattle.run.specs.Records.{validRun}
-use Rattle.run.specs.Queries.{oneOf}
-use Rattle.run.proofs.Bounds.{placed}
-use Rattle.run.proofs.Guards.{standing-invalid, standing-missing, standing-accepted}
+use Rattle.run.specs.Queries.{oneOf, standingOf}
 use borrow.Author.Needs.{needs}
 use Rattle.run.proofs.Run.standing.Statement.{statement}
 use Rattle.run.proofs.Run.standing.Tie as tie
@@ -26,8 +25,8 @@ past-found c =
     at (not-false (c .before .before .one-of .result && c .before .one-of2 .result) (c .if2 .left))
 
 returns : tie.Need-returns
-unfolding standingReply
-returns c = sym (standing-invalid _ _ _ (sym (c .before .valid-run .ensures) ∙ not-true _ (c .if1 .taken)))
+unfolding standingAnswer standingOf numberOf
+returns c = sym (stopped 11 _ (sym (c .before .valid-run .ensures) ∙ not-true _ (c .if1 .taken)))
 
 one-of-requires : tie.Need-one-of-requires
 one-of-requires c κs = search needs
@@ -36,38 +35,23 @@ one-of-requires-2 : tie.Need-one-of-requires-2
 one-of-requires-2 c κs = search needs
 
 returns-2 : tie.Need-returns-2
-unfolding standingReply
+unfolding standingAnswer standingOf numberOf
 returns-2 c =
     let missing =
     rw (c .before .before .one-of .ensures, c .before .one-of2 .ensures)
     at (not-true (c .before .before .one-of .result && c .before .one-of2 .result) (c .if2 .taken)) in
-    sym (standing-missing _ _ _ (past-valid (c .before .before .before)) missing)
+    sym (passed 11 _ (past-valid (c .before .before .before)) ∙ stopped 10 _ missing)
 
-place-requires : tie.Need-place-requires
-place-requires c κs = placed _ _ _ (past-valid (c .before .before .before .before)) (past-found (c .before))
-
-mul-c : tie.Need-mul-c
-mul-c c = search needs
-
-array-copy-out-c : tie.Need-array-copy-out-c
-array-copy-out-c c = search needs
+standing-in-requires : tie.Need-standing-in-requires
+standing-in-requires c κs = search needs
 
 returns-3 : tie.Need-returns-3
-unfolding standingReply standingIn
+unfolding standingAnswer standingOf
 returns-3 c =
-    rw (c .before .place .ensures .0)
-    (sym (standing-accepted _ _ _ (past-valid (c .before .before .before .before .before .before)) (past-found (c .before .before .before))))
+    rw (c .standing-in .ensures)
+    (sym (passed 11 _ (past-valid (c .before .before .before .before .before)) ∙ passed 10 _ (past-found (c .before .before))))
 
 pub standing-spec : {M : Type 1} → statement M
 standing-spec =
     tie.close
-    (tie.spec
-    valid-run-requires
-    returns
-    one-of-requires
-    one-of-requires-2
-    returns-2
-    place-requires
-    mul-c
-    array-copy-out-c
-    returns-3)
+    (tie.spec valid-run-requires returns one-of-requires one-of-requires-2 returns-2 standing-in-requires returns-3)

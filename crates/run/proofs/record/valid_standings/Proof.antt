@@ -9,10 +9,10 @@ use lib.ListN.{getD}
 use Rattle.declare.specs.Lists.{allBelow}
 use Rattle.declare.proofs.Booleans.{fails}
 use Rattle.declare.proofs.Sweeps.{all-none, all-again}
-use Rattle.judge.specs.declared.Cell.{Cell}
-use Rattle.judge.specs.Cells.{idleCell}
+use Rattle.standings.specs.declared.Cell.{Cell}
+use Rattle.standings.specs.Places.{idleCell}
 use Rattle.run.specs.Records.{validAt, validStandings}
-use Rattle.run.proofs.Lists.{all-each}
+use Rattle.declare.proofs.Lists.{all-each}
 use Rattle.run.proofs.Checks.{flat-standings}
 use borrow.Author.Needs.{needs}
 use Rattle.run.proofs.record.valid_standings.Statement.{statement}

@@ -1,0 +1,24 @@
+-- Document 01's limits, by name.
+use Prim.Native.Nat.{ℕ}
+
+-- "activity 1 to 64"
+abbrev pub lastActivity : ℕ
+lastActivity = 64
+
+-- the readings of an event, and the comparisons of a condition
+abbrev pub readings : ℕ
+readings = 4
+
+abbrev pub mostComparisons : ℕ
+mostComparisons = 4
+
+-- the templates have the codes 1 to 12
+abbrev pub lastTemplate : ℕ
+lastTemplate = 12
+
+-- of a table, and of a run
+abbrev pub mostRules : ℕ
+mostRules = 16
+
+abbrev pub mostEvents : ℕ
+mostEvents = 256

@@ -1,0 +1,2 @@
+-- Laws of the crate.
+mod Conditions

@@ -1,0 +1,110 @@
+// The limits of rules: every number against its range.
+ghost use mathlib.Core.Path.{_≡_};
+ghost use mathlib.Core.Bool.{false, true};
+ghost use Rattle.declare.specs.Lists.{all};
+ghost use Rattle.declare.specs.Conditions.{comparisonsOf};
+ghost use Rattle.declare.specs.Rules.{isReading, validReference, validComparison, noneTwice, validCondition, validEnd, validWindow, validHead, validRule};
+use crate::event::in_range;
+use crate::event::is_activity;
+use declare::Comparison;
+use declare::Condition;
+use declare::End;
+use declare::LAST_TEMPLATE;
+use declare::LATEST;
+use declare::Reference;
+use declare::Rule;
+use declare::Window;
+
+fn is_reading(k: u8) -> bool
+    ensures { λ r. ⌜ r ≡ isReading k ⌝ }
+{
+    (1 <= k) & (k <= 4)
+}
+
+// The activation's readings are named in a correlation only.
+fn valid_reference(correlation: bool, reference: Reference) -> bool
+    ensures { λ r. ⌜ r ≡ validReference correlation reference ⌝ }
+{
+    match reference {
+        Reference::Constant(k) => in_range(k),
+        Reference::Activation(g, k) => correlation & is_reading(g) & in_range(k),
+    }
+}
+
+fn valid_comparison(correlation: bool, c: Comparison) -> bool
+    ensures { λ r. ⌜ r ≡ validComparison correlation c ⌝ }
+{
+    let reference = c.reference;
+    is_reading(c.reading) & valid_reference(correlation, reference)
+}
+
+// The comparisons up to the count.
+fn valid_comparisons(correlation: bool, c: Condition) -> bool
+    ensures { λ r. ⌜ r ≡ all (validComparison correlation) (comparisonsOf c) ⌝ }
+{
+    let n = c.count;
+    ((n < 1) | valid_comparison(correlation, c.first))
+        & ((n < 2) | valid_comparison(correlation, c.second))
+        & ((n < 3) | valid_comparison(correlation, c.third))
+        & ((n < 4) | valid_comparison(correlation, c.fourth))
+}
+
+// Whether no two comparisons up to the count name the same reading.
+fn none_twice(c: Condition) -> bool
+    ensures { λ r. ⌜ r ≡ noneTwice (comparisonsOf c) ⌝ }
+{
+    let n = c.count;
+    let first = c.first.reading;
+    let second = c.second.reading;
+    let third = c.third.reading;
+    let fourth = c.fourth.reading;
+    ((n < 2) | (first != second))
+        & ((n < 3) | (first != third) & (second != third))
+        & ((n < 4) | (first != fourth) & (second != fourth) & (third != fourth))
+}
+
+// A condition of no comparisons is valid, and many rules have one.
+fn valid_condition(correlation: bool, c: Condition) -> bool
+    ensures { λ r. ⌜ r ≡ validCondition correlation c ⌝ }
+{
+    if c.count < 1 {
+        return true;
+    }
+    (c.count <= 4) & valid_comparisons(correlation, c) & none_twice(c)
+}
+
+// Whether b, the end, is above a, the start.
+fn valid_end(a: u32, until: End) -> bool
+    ensures { λ r. ⌜ r ≡ validEnd a until ⌝ }
+{
+    match until {
+        End::Never => true,
+        End::At(b) => (a < b) & (b <= LATEST),
+    }
+}
+
+fn valid_window(w: Window) -> bool
+    ensures { λ r. ⌜ r ≡ validWindow w ⌝ }
+{
+    let until = w.until;
+    (w.from <= LATEST) & valid_end(w.from, until)
+}
+
+// All of a rule but its conditions.
+fn valid_head(rule: Rule) -> bool
+    ensures { λ r. ⌜ r ≡ validHead rule ⌝ }
+{
+    (1 <= rule.code)
+        & (rule.code <= LAST_TEMPLATE)
+        & is_activity(rule.activation)
+        & is_activity(rule.target)
+        & valid_window(rule.window)
+}
+
+pub fn valid_rule(rule: Rule) -> bool
+    ensures { λ r. ⌜ r ≡ validRule rule ⌝ }
+{
+    valid_head(rule)
+        & valid_condition(false, rule.condition)
+        & valid_condition(true, rule.correlation)
+}

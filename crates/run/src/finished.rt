@@ -1,0 +1,28 @@
+// A finished cycle, closed at once.
+ghost use mathlib.Core.Path.{_≡_};
+ghost use Rattle.run.specs.Close.{finishedRun};
+use crate::Run;
+use declare::EVENTS;
+use declare::Event;
+use declare::Table;
+use judge::cells::judge_cells;
+use standings::idle_cells;
+
+impl Run {
+    // The closed run of a table and the events of a whole cycle, which it does not check. Each
+    // position is judged once, on the whole cycle. The horizon is not looked at: nothing more
+    // comes.
+    pub fn finished(table: Table, count: usize, events: [Event; EVENTS]) -> Run
+        ensures { λ r. ⌜ r ≡ finishedRun table count events ⌝ }
+    {
+        let cells = idle_cells();
+        let judged = judge_cells(false, table, events, count, 0, cells);
+        Run {
+            closed: true,
+            table: table,
+            count: count,
+            events: events,
+            cells: judged,
+        }
+    }
+}

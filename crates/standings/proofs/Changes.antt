@@ -1,0 +1,58 @@
+-- A change of all cells, by rule and position: what is in use is changed, what is not stays.
+use mathlib.Core.Path.{_≡_, refl, ap, _∙_}
+use mathlib.Core.Bool.{false, and-false}
+use mathlib.Core.List.{List}
+use Prim.Native.Nat.{ℕ, _≤_, _<_}
+use native.Mathlib.Nat.{zero-add}
+use native.Mathlib.Omega.{arith}
+use borrow.Author.Tests.{le-leb, lt-leb}
+use lib.Dec.{leb}
+use lib.ListN.{length, getD, replicate}
+use Rattle.declare.specs.declared.Standing.{Standing}
+use Rattle.declare.specs.declared.Standing.the-variants.{Idle}
+use Rattle.declare.proofs.Lists.{replicated}
+use Rattle.declare.proofs.Sweeps.{getD-map-from, length-map-from}
+use Rattle.standings.specs.declared.Cell.{Cell}
+use Rattle.standings.specs.Places.{places, idleCell, placeOf, standingFrom, standingIn, inUse, changedCell, changed}
+use Rattle.standings.proofs.Places.{in-use, rule-at, position-at}
+
+module _ (f : ℕ → ℕ → Standing → Standing) (rules n : ℕ) (cells : List Cell) where
+  pub changed-length : length (changed f rules n cells) ≡ length cells
+  unfolding changed
+  changed-length = length-map-from (changedCell f rules n) 0 cells
+
+  module _ (j : ℕ) (within : j < length cells) where
+    changed-at : getD (changed f rules n cells) j idleCell ≡ changedCell f rules n j (getD cells j idleCell)
+    unfolding changed
+    changed-at =
+        getD-map-from (changedCell f rules n) 0 cells j idleCell within
+        ∙ ap (λ (i : ℕ). changedCell f rules n i (getD cells j idleCell)) (zero-add j)
+
+    -- a cell that is not in use stays as it is
+    pub changed-kept : inUse rules n j ≡ false → getD (changed f rules n cells) j idleCell ≡ getD cells j idleCell
+    unfolding changedCell
+    changed-kept u = changed-at ∙ rw u refl
+
+  module _ (size : length cells ≡ places) (k i : ℕ) (k-low : 1 ≤ k) (k-high : k ≤ 16) (i-low : 1 ≤ i) (i-high : i ≤ 256) where
+    by-place : standingIn (changed f rules n cells) k i ≡ (changedCell f rules n (placeOf k i) (getD cells (placeOf k i) idleCell)) .standing
+    unfolding standingIn standingFrom
+    by-place = ap (λ (c : Cell). c .standing) (changed-at (placeOf k i) (omega arith))
+
+    pub changed-standing : k ≤ rules → i ≤ n → standingIn (changed f rules n cells) k i ≡ f k i (standingIn cells k i)
+    unfolding changedCell standingIn standingFrom
+    changed-standing a b =
+        by-place
+        ∙ rw (in-use k i k-low i-low i-high rules n, le-leb k rules a, le-leb i n b, rule-at k i k-low i-low i-high, position-at k i k-low i-low i-high) refl
+
+    -- past the events a standing stays
+    pub changed-past : n < i → standingIn (changed f rules n cells) k i ≡ standingIn cells k i
+    unfolding changedCell standingIn standingFrom
+    changed-past b = by-place ∙ rw (in-use k i k-low i-low i-high rules n, lt-leb i n b, and-false (leb k rules)) refl
+
+pub idle-standing : (cells : List Cell) (k i : ℕ) → getD cells (placeOf k i) idleCell ≡ idleCell → standingIn cells k i ≡ Idle
+unfolding standingIn standingFrom
+idle-standing cells k i e = ap (λ (c : Cell). c .standing) e
+
+pub idle-everywhere : (n k i : ℕ) → standingIn (replicate n idleCell) k i ≡ Idle
+unfolding standingIn standingFrom
+idle-everywhere n k i = ap (λ (c : Cell). c .standing) (replicated n (placeOf k i) idleCell)

@@ -1,0 +1,90 @@
+-- Totals: one position more, their bounds, and their sum.
+use mathlib.Core.Path.{_≡_, refl, ap, ap₂, _∙_}
+use mathlib.Core.Bool.{Bool, not}
+use mathlib.Core.List.{List}
+use Prim.Native.Nat.{ℕ, zero, suc, _+_, _-_, _≤_, _<_}
+use native.Mathlib.Nat.{add-zero}
+use native.Mathlib.Numerals.{add-one}
+use native.Mathlib.Omega.{arith}
+use native.Mathlib.Decide.{le-ind}
+use lib.ListN.{getD}
+use Rattle.declare.specs.declared.Standing.{Standing}
+use Rattle.declare.specs.declared.Standing.the-variants.{Idle, Open, Fulfilled, Violated}
+use Rattle.declare.specs.Lists.{countBelow, bit}
+use Rattle.declare.specs.Standings.{isIdle, isOpen, isFulfilled, isViolated}
+use Rattle.declare.proofs.Sweeps.{count-le}
+use Rattle.standings.specs.declared.Cell.{Cell}
+use Rattle.standings.specs.Places.{idleCell, standingFrom}
+use Rattle.standings.specs.declared.totals.Totals.{Totals}
+use Rattle.declare.proofs.Lists.{count-same}
+use Rattle.standings.specs.Totals.{positionsOf, totalsBy, withStanding}
+
+pub totals-none : (s : ℕ → Standing) → record { activations = 0; fulfilled = 0; violated = 0; «open» = 0 } ≡ totalsBy s 0
+unfolding totalsBy positionsOf countBelow
+totals-none s = refl
+
+-- one place more of a row
+next-place : (cells : List Cell) (first p : ℕ) → (getD cells (first + p) idleCell) .standing ≡ standingFrom cells first (p + 1)
+unfolding standingFrom
+next-place cells first p = ap (λ (i : ℕ). (getD cells (first + i) idleCell) .standing) back
+  where
+    back : p ≡ p + 1 - 1
+    back = omega arith
+
+pub totals-again : (cells : List Cell) (first p : ℕ) {t u : Totals} {s : Standing} → t ≡ totalsBy (standingFrom cells first) p → s ≡ (getD cells (first + p) idleCell) .standing → u ≡ withStanding t s → u ≡ totalsBy (standingFrom cells first) (p + 1)
+unfolding totalsBy positionsOf countBelow withStanding
+totals-again cells first p e h g = rw (add-one p) (g ∙ rw (e, h, next-place cells first p) refl)
+
+pub record Small (t : Totals) (n : ℕ) : Type 0 where
+  pub activations : t .activations ≤ n
+  pub fulfilled : t .fulfilled ≤ n
+  pub violated : t .violated ≤ n
+  pub «open» : t .«open» ≤ n
+
+-- no total is above the number of positions
+pub totals-small : (s : ℕ → Standing) (n : ℕ) {t : Totals} → t ≡ totalsBy s n → Small t n
+unfolding totalsBy positionsOf
+totals-small s n {t} e =
+    rw e (record { activations = count-le _ n; fulfilled = count-le _ n; violated = count-le _ n; «open» = count-le _ n })
+
+-- ---- what the totals count
+
+-- equal standings, equal totals
+pub totals-same : (s u : ℕ → Standing) (n : ℕ) → ((i : ℕ) → 1 ≤ i → i ≤ n → s i ≡ u i) → totalsBy s n ≡ totalsBy u n
+unfolding totalsBy positionsOf
+totals-same s u n f = rw (each (λ x. not (isIdle x)), each isFulfilled, each isViolated, each isOpen) refl
+  where
+    each : (p : Standing → Bool) → countBelow (λ k. p (s (k + 1))) n ≡ countBelow (λ k. p (u (k + 1))) n
+    each p = count-same (λ k. p (s (k + 1))) (λ k. p (u (k + 1))) n (λ k l. ap p (f (k + 1) (omega arith) (omega arith)))
+
+-- idle positions count for nothing
+with-idle : (t : Totals) → withStanding t Idle ≡ t
+unfolding withStanding
+with-idle t = simp add-zero
+
+with-next : (s : ℕ → Standing) (k : ℕ) → totalsBy s (suc k) ≡ withStanding (totalsBy s k) (s (k + 1))
+unfolding totalsBy positionsOf countBelow withStanding
+with-next s k = refl
+
+pub totals-idle : (s : ℕ → Standing) (n m : ℕ) → n ≤ m → ((i : ℕ) → n < i → i ≤ m → s i ≡ Idle) → totalsBy s m ≡ totalsBy s n
+totals-idle s n m l f =
+    le-ind (λ (k : ℕ). k ≤ m → totalsBy s k ≡ totalsBy s n) (λ _. refl) (λ k a e b. next k (e (omega arith)) (f (k + 1) (omega arith) (omega arith))) m l (omega arith)
+  where
+    next : (k : ℕ) → totalsBy s k ≡ totalsBy s n → s (k + 1) ≡ Idle → totalsBy s (suc k) ≡ totalsBy s n
+    next k e i = with-next s k ∙ ap₂ withStanding e i ∙ with-idle (totalsBy s n)
+
+bit-sum : (s : Standing) → bit (not (isIdle s)) ≡ bit (isFulfilled s) + bit (isViolated s) + bit (isOpen s)
+bit-sum Idle = refl
+bit-sum Open = refl
+bit-sum (Fulfilled j) = refl
+bit-sum (Violated j) = refl
+
+-- every position that is not idle is fulfilled, violated or open
+pub totals-sum : (s : ℕ → Standing) (n : ℕ) → (totalsBy s n) .activations ≡ (totalsBy s n) .fulfilled + (totalsBy s n) .violated + (totalsBy s n) .«open»
+unfolding totalsBy positionsOf countBelow
+totals-sum s zero = refl
+totals-sum s (suc n) = omega (arith, totals-sum s n, bit-sum (s (n + 1)))
+
+pub totals-activations : (s : ℕ → Standing) (a : ℕ → Bool) (n : ℕ) → ((i : ℕ) → not (isIdle (s i)) ≡ a i) → (totalsBy s n) .activations ≡ countBelow (λ p. a (p + 1)) n
+unfolding totalsBy positionsOf
+totals-activations s a n f = count-same (λ p. not (isIdle (s (p + 1)))) (λ p. a (p + 1)) n (λ p l. f (p + 1))

@@ -1,0 +1,6 @@
+-- The laws of the store, for the crates above it.
+pub mod Places
+pub mod Changes
+pub mod Same
+pub mod Counts
+mod Rows

@@ -1,0 +1,56 @@
+-- Where a rule's position stands, and which places are in use.
+use mathlib.Core.Path.{_≡_, refl, _∙_, ap}
+use mathlib.Core.Bool.{Bool, true, false, _&&_, and-false}
+use Prim.Native.Nat.{ℕ, suc, _+_, _-_, _*_, _/_, _%_, _≤_, _<_}
+use native.Mathlib.Omega.{arith}
+use borrow.Author.Tests.{lt-ltb, le-ltb, ltb-true}
+use lib.Dec.{leb, ltb}
+use Rattle.declare.proofs.Booleans.{and₂, both, fails}
+use Rattle.standings.specs.Places.{placeOf, inUse}
+
+module _ (count n j : ℕ) where
+  pub place-in-use : j / 256 < count → j % 256 < n → inUse count n j ≡ true
+  unfolding inUse
+  place-in-use a b = both (lt-ltb (j / 256) count a) (lt-ltb (j % 256) n b)
+
+  past-row : n ≤ j % 256 → inUse count n j ≡ false
+  unfolding inUse
+  past-row a = ap (λ (t : Bool). ltb (j / 256) count && t) (le-ltb (j % 256) n a) ∙ and-false (ltb (j / 256) count)
+
+  past-rules : count ≤ j / 256 → inUse count n j ≡ false
+  unfolding inUse
+  past-rules a = rw (le-ltb (j / 256) count a)
+
+-- from a place past the n events of its row to the next row nothing is in use
+pub row-rest : (count n j i : ℕ) → n ≤ j % 256 → j ≤ i → i < j + (256 - j % 256) → inUse count n i ≡ false
+row-rest count n j i a b c = past-row count n i (omega arith)
+
+-- nor past the rows of the rules
+pub rules-rest : (count n i : ℕ) → count * 256 ≤ i → inUse count n i ≡ false
+rules-rest count n i a = past-rules count n i (omega arith)
+
+-- with fewer events no further place is in use
+pub in-use-fewer : (rules n j : ℕ) → inUse rules (n + 1) j ≡ false → inUse rules n j ≡ false
+unfolding inUse
+in-use-fewer rules n j =
+    fails (ltb (j / 256) rules && ltb (j % 256) n)
+    (λ u. let p : (ltb (j / 256) rules ≡ true) × (ltb (j % 256) n ≡ true) = and₂ u in
+    both (p .0) (lt-ltb (j % 256) (n + 1) (omega (arith, ltb-true (j % 256) n (p .1)))))
+
+-- ---- the place of rule k and position i
+
+module _ (k i : ℕ) (k-low : 1 ≤ k) (i-low : 1 ≤ i) (i-high : i ≤ 256) where
+  pub rule-at : placeOf k i / 256 + 1 ≡ k
+  rule-at = omega arith
+
+  pub position-at : placeOf k i % 256 + 1 ≡ i
+  position-at = omega arith
+
+  pub in-use : (rules n : ℕ) → inUse rules n (placeOf k i) ≡ (leb k rules && leb i n)
+  unfolding inUse
+  in-use rules n =
+      let row : placeOf k i / 256 ≡ k - 1 = omega arith in
+      let column : placeOf k i % 256 ≡ i - 1 = omega arith in
+      let a : suc (k - 1) ≡ k = omega arith in
+      let b : suc (i - 1) ≡ i = omega arith in
+      rw (row, column) (rw (a, b) refl)

@@ -1,0 +1,3 @@
+-- Where a run's standings stand, and how they are counted.
+pub mod Places
+pub mod Totals

@@ -1,0 +1,40 @@
+// The store of a run's standings: sixteen rows, one a rule, of 256 cells, one a position, in one
+// flat array.
+ghost use mathlib.Core.Path.{_≡_};
+ghost use Rattle.standings.specs.Places.{idleCells, standingIn};
+use crate::place::row_start;
+use declare::Standing;
+use declare::numbers::less_one;
+
+mod place; // place.rt: where the rows begin
+pub mod totals; // totals.rt: the totals of a rule
+
+// The cells of all rules.
+pub const PLACES: usize = 4096;
+
+pub struct Cell {
+    pub standing: Standing,
+}
+
+// As start gives them.
+pub fn idle_cells() -> [Cell; PLACES]
+    ensures { λ r. ⌜ r ≡ idleCells ⌝ }
+{
+    let idle = Cell {
+        standing: Standing::Idle,
+    };
+    [idle; PLACES]
+}
+
+// The standing of a rule's position; both count from 1. Past the cells it is idle.
+pub fn standing_in(cells: [Cell; PLACES], rule: usize, position: usize) -> Standing
+    ensures { λ r. ⌜ r ≡ standingIn cells rule position ⌝ }
+{
+    let first = row_start(rule);
+    let p = less_one(position);
+    if PLACES - first <= p {
+        return Standing::Idle;
+    }
+    let c = cells[first + p];
+    c.standing
+}
