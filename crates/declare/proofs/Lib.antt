@@ -2,6 +2,7 @@
 pub mod Booleans
 pub mod Positions
 pub mod Integers
+pub mod Casts
 pub mod Satisfiability
 pub mod Extension
 pub mod Arrival

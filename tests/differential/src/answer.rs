@@ -31,6 +31,8 @@ pub struct Answer {
     pub text: u8,
     /// Activations, fulfilled, violated, open.
     pub totals: [u16; 4],
+    /// Of a text that was written.
+    pub length: u64,
 }
 
 impl Answer {
@@ -94,26 +96,48 @@ impl Answer {
         }
     }
 
+    pub fn written(answer: Result<usize, Refusal>) -> Answer {
+        match answer {
+            Ok(length) => Answer {
+                length: length as u64,
+                ..Answer::default()
+            },
+            Err(refusal) => Answer::refused(refusal),
+        }
+    }
+
     pub fn decode(bytes: &[u8]) -> Result<Answer, Wrong> {
         let mut read = Bytes::new(bytes);
-        let number = read.u8()?;
-        let has_line = read.flag()?;
-        let line = read.u16()?;
-        read.zero(has_line || line == 0, line)?;
-        let kind = read.u8()?;
-        let text = read.u8()?;
-        let target = read.u16()?;
+        let head = head_of(&mut read)?;
         let totals = [read.u16()?, read.u16()?, read.u16()?, read.u16()?];
         read.end()?;
-        Ok(Answer {
-            number,
-            line: has_line.then_some(line),
-            kind,
-            target,
-            text,
-            totals,
-        })
+        Ok(Answer { totals, ..head })
     }
+
+    /// The answer of `w` or `W`: bytes 8 to 15 are the length.
+    pub fn decode_written(bytes: &[u8]) -> Result<Answer, Wrong> {
+        let mut read = Bytes::new(bytes);
+        let head = head_of(&mut read)?;
+        let length = read.u64()?;
+        read.end()?;
+        Ok(Answer { length, ..head })
+    }
+}
+
+/// Bytes 0 to 7 of an answer.
+fn head_of(read: &mut Bytes) -> Result<Answer, Wrong> {
+    let number = read.u8()?;
+    let has_line = read.flag()?;
+    let line = read.u16()?;
+    read.zero(has_line || line == 0, line)?;
+    Ok(Answer {
+        number,
+        line: has_line.then_some(line),
+        kind: read.u8()?,
+        text: read.u8()?,
+        target: read.u16()?,
+        ..Answer::default()
+    })
 }
 
 /// The dump `d` of so many rules and positions.
@@ -284,14 +308,33 @@ mod tests {
     }
 
     #[test]
-    fn answers_of_another_form_are_wrong() {
+    fn answers_of_the_writers_have_a_length() {
+        let bytes = [0, 0, 0, 0, 0, 0, 0, 0, 1, 2, 3, 0, 0, 0, 0, 1];
+        let expected = Answer::written(Ok(0x0100_0000_0003_0201));
+        assert_eq!(Answer::decode_written(&bytes), Ok(expected));
+        assert_ne!(Answer::decode(&bytes), Ok(expected));
         let mut bytes = [0; 16];
-        bytes[2] = 1;
-        assert!(Answer::decode(&bytes).is_err(), "a line without its flag");
-        bytes[1] = 2;
-        assert!(Answer::decode(&bytes).is_err(), "no flag");
-        assert!(Answer::decode(&[0; 15]).is_err());
-        assert!(Answer::decode(&[0; 17]).is_err());
+        bytes[0] = 15;
+        let expected = Answer::written(Err(Refusal::plain(15)));
+        assert_eq!(Answer::decode_written(&bytes), Ok(expected));
+        for at in [4, 5, 6, 8] {
+            let mut bytes = bytes;
+            bytes[at] = 1;
+            assert_ne!(Answer::decode_written(&bytes), Ok(expected), "{at}");
+        }
+    }
+
+    #[test]
+    fn answers_of_another_form_are_wrong() {
+        for decode in [Answer::decode, Answer::decode_written] {
+            let mut bytes = [0; 16];
+            bytes[2] = 1;
+            assert!(decode(&bytes).is_err(), "a line without its flag");
+            bytes[1] = 2;
+            assert!(decode(&bytes).is_err(), "no flag");
+            assert!(decode(&[0; 15]).is_err());
+            assert!(decode(&[0; 17]).is_err());
+        }
     }
 
     #[test]

@@ -7,3 +7,4 @@ pub mod reports;
 pub mod running;
 pub mod tally;
 pub mod texts;
+pub mod written;

@@ -9,6 +9,15 @@ pub const COMMAND_BYTES: usize = 32;
 /// "A text is at most 65,536 bytes"; a script never has a larger one.
 pub const LARGEST_TEXT: usize = 65_536;
 
+/// "A buffer is at most 65,536 bytes".
+pub const LARGEST_BUFFER: usize = 65_536;
+
+/// The buffer of `w` and `W` before the call: "a larger n is cut to 65,536. Each
+/// of its bytes is 165".
+pub fn buffer_of(n: u64) -> Vec<u8> {
+    vec![165; n.min(LARGEST_BUFFER as u64) as usize]
+}
+
 /// One command. Slots, places and cells count from 0, rules and positions
 /// from 1.
 #[derive(Debug, Clone, PartialEq, Eq)]
@@ -70,6 +79,12 @@ pub enum Command {
         rules: Vec<u8>,
         cycle: Vec<u8>,
     },
+    WriteRules {
+        n: u64,
+    },
+    WriteCycle {
+        n: u64,
+    },
     DumpStandings,
     DumpRun,
     DumpTally,
@@ -97,6 +112,8 @@ impl Command {
             Command::ReadRules(_) => 'R',
             Command::ReadCycle(_) => 'Y',
             Command::Notebook { .. } => 'N',
+            Command::WriteRules { .. } => 'w',
+            Command::WriteCycle { .. } => 'W',
             Command::DumpStandings => 'd',
             Command::DumpRun => 'D',
             Command::DumpTally => 'B',
@@ -140,6 +157,7 @@ impl Command {
             Command::Notebook { rules, cycle } => {
                 fields.p(rules.len() as u32).q(cycle.len() as u32)
             }
+            Command::WriteRules { n } | Command::WriteCycle { n } => fields.n(*n),
             _ => self.table_fields(fields),
         }
     }
@@ -345,6 +363,8 @@ mod tests {
         assert_eq!(encoded(Command::SetEventCount { count }), bytes(b'C', &n));
         assert_eq!(encoded(Command::Totals { rule: count }), bytes(b'o', &n));
         assert_eq!(encoded(Command::Absorb { rule: count }), bytes(b'b', &n));
+        assert_eq!(encoded(Command::WriteRules { n: count }), bytes(b'w', &n));
+        assert_eq!(encoded(Command::WriteCycle { n: count }), bytes(b'W', &n));
         let (rule, position) = (0x0506_0708, 0x0102_0304);
         let standing = Command::Standing { rule, position };
         assert_eq!(encoded(standing), bytes(b'g', &n));
@@ -443,6 +463,16 @@ mod tests {
             (28, &[0, 0, 0, 128]),
         ];
         assert_eq!(encoded(Command::SetTally(tally)), bytes(b'A', &placed));
+    }
+
+    #[test]
+    fn buffers_are_cut_to_65536_bytes() {
+        assert_eq!(buffer_of(0), []);
+        assert_eq!(buffer_of(3), [165, 165, 165]);
+        assert_eq!(buffer_of(65_535), [165; 65_535]);
+        for n in [65_536, 65_537, 1 << 32, u64::MAX] {
+            assert_eq!(buffer_of(n), [165; 65_536]);
+        }
     }
 
     #[test]

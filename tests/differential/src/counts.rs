@@ -49,7 +49,7 @@ impl Counts {
 
     fn add_step(&mut self, command: &Command, expected: &Expected) {
         let letter = command.letter();
-        if let Expected::Answer(answer) = expected {
+        if let Some(answer) = expected.answer() {
             *self.answers.entry((letter, answer.number)).or_default() += 1;
             return;
         }
@@ -124,6 +124,8 @@ impl fmt::Display for Counts {
             ('R', "rules texts"),
             ('Y', "cycle texts"),
             ('N', "pairs of texts"),
+            ('w', "writes of rules"),
+            ('W', "writes of events"),
         ];
         for (letter, name) in names {
             let calls = self.calls(letter);

@@ -8,6 +8,8 @@ use std::fmt::{self, Debug, Display};
 const SHOWN_FIELDS: usize = 12;
 /// So many commands of a script are shown.
 const SHOWN_COMMANDS: usize = 60;
+/// So many bytes of a buffer are shown.
+const SHOWN_BYTES: usize = 80;
 
 /// What was expected in place of what was found.
 #[derive(Debug, Clone, PartialEq, Eq)]
@@ -143,6 +145,25 @@ pub fn differing_used_fields(expected: &Record, found: &Record) -> Result<(), Mi
     }
 }
 
+/// Whether two buffers are the same: where they are not, the bytes from the
+/// first one on that differs.
+pub fn differing_bytes(expected: &[u8], found: &[u8]) -> Result<(), Mismatch> {
+    if expected == found {
+        return Ok(());
+    }
+    let same = expected.iter().zip(found).take_while(|(e, f)| e == f);
+    let at = same.count();
+    let shown = |buffer: &[u8]| {
+        let end = buffer.len().min(at + SHOWN_BYTES);
+        let bytes = buffer[at..end].escape_ascii();
+        format!("buffer from byte {at} on: \"{bytes}\"")
+    };
+    Err(Mismatch {
+        expected: shown(expected),
+        found: shown(found),
+    })
+}
+
 #[cfg(test)]
 mod tests {
     use super::*;
@@ -196,6 +217,22 @@ mod tests {
         other.table.rules[1].correlation.comparisons[0].reading = 0;
         other.standings[place(3, 1)] = Standing::Open;
         assert_eq!(differing_used_fields(&run(), &other), Ok(()));
+    }
+
+    #[test]
+    fn every_byte_of_a_buffer_is_compared() {
+        let buffer = b"0\t1\n\xa5".to_vec();
+        assert_eq!(differing_bytes(&buffer, &buffer), Ok(()));
+        for at in 0..buffer.len() {
+            let mut other = buffer.clone();
+            other[at] = b'x';
+            let mismatch = differing_bytes(&buffer, &other).expect_err("a difference");
+            let shown = format!("buffer from byte {at} on: \"x");
+            assert!(mismatch.found.starts_with(&shown), "{mismatch:?}");
+            assert!(mismatch.expected.ends_with("\\xa5\""), "{mismatch:?}");
+        }
+        assert!(differing_bytes(&buffer, &buffer[1..]).is_err());
+        assert!(differing_bytes(&buffer, &buffer[..3]).is_err());
     }
 
     #[test]

@@ -4,7 +4,7 @@
 use crate::answer::{decode_run, decode_standings, decode_tally, Answer};
 use crate::answer::{ANSWER_BYTES, RUN_BYTES, STANDING_BYTES, TALLY_BYTES};
 use crate::bytes::Wrong;
-use crate::differ::{differing_fields, differing_used_fields, Mismatch};
+use crate::differ::{differing_bytes, differing_fields, differing_used_fields, Mismatch};
 use evaluator::{Event, Record, Rule, Standing, Tally};
 use std::fmt::Debug;
 
@@ -12,6 +12,8 @@ use std::fmt::Debug;
 pub enum Expected {
     /// The answer of a call.
     Answer(Answer),
+    /// The answer of `w` or `W`, and all bytes of the buffer.
+    Written { answer: Answer, buffer: Vec<u8> },
     /// The dump `d`: the standings of each rule at the taken positions. The
     /// template codes are for counting.
     Standings {
@@ -32,10 +34,19 @@ pub enum Expected {
 }
 
 impl Expected {
+    /// The answer, if this is not a dump.
+    pub fn answer(&self) -> Option<&Answer> {
+        match self {
+            Expected::Answer(answer) | Expected::Written { answer, .. } => Some(answer),
+            _ => None,
+        }
+    }
+
     /// The number of bytes of the answer or dump.
     pub fn length(&self) -> usize {
         match self {
             Expected::Answer(_) => ANSWER_BYTES,
+            Expected::Written { buffer, .. } => ANSWER_BYTES + buffer.len(),
             Expected::Standings { rows, .. } => {
                 STANDING_BYTES * rows.iter().map(Vec::len).sum::<usize>()
             }
@@ -49,6 +60,11 @@ impl Expected {
     pub fn check(&self, found: &[u8]) -> Result<(), Mismatch> {
         match self {
             Expected::Answer(answer) => same(Ok(*answer), Answer::decode(found)),
+            Expected::Written { answer, buffer } => {
+                let (head, found) = found.split_at(ANSWER_BYTES);
+                same(Ok(*answer), Answer::decode_written(head))?;
+                differing_bytes(buffer, found)
+            }
             Expected::Standings { rows, .. } => {
                 let positions = rows.first().map_or(0, Vec::len);
                 same(

@@ -1,11 +1,12 @@
 //! Scripts for `probe`, each step with what the evaluator expects of it.
 
 use crate::answer::Answer;
-use crate::command::Command;
+use crate::command::{buffer_of, Command};
 use crate::expected::Expected;
 use evaluator::slots::{COMPARISON_SLOTS, RULE_SLOTS};
-use evaluator::{absorb, notebook_record, place, start, Comparison, ConditionSlot, Event};
-use evaluator::{Operator, Record, Refusal, Rule, RuleSlot, Standing, TableRecord, Tally, Text};
+use evaluator::{absorb, notebook_record, place, read_cycle, read_rules, start};
+use evaluator::{write_cycle_of, write_rules_of, Comparison, ConditionSlot, Event, Operator};
+use evaluator::{Record, Refusal, Rule, RuleSlot, Standing, TableRecord, Tally, Text};
 
 /// A command and what it has to answer, if it answers.
 #[derive(Debug, Clone)]
@@ -172,10 +173,11 @@ pub fn table_of(rules: &[Rule]) -> TableRecord {
     table
 }
 
-/// A case together with the evaluator's run and tally. Each call is made on
-/// both, and the evaluator's answer is the expected one.
+/// A case together with the evaluator's table under construction, run and tally.
+/// Each call is made on both, and the evaluator's answer is the expected one.
 pub struct Session {
     pub case: Case,
+    pub table: TableRecord,
     pub run: Record,
     pub tally: Tally,
 }
@@ -187,6 +189,7 @@ impl Session {
         case.load_run(&run);
         Session {
             case,
+            table: run.table.clone(),
             run,
             tally: Tally::default(),
         }
@@ -200,6 +203,7 @@ impl Session {
         case.ask(Command::Start, Expected::Answer(Answer::plain(Ok(()))));
         Session {
             case,
+            table: table.clone(),
             run,
             tally: Tally::default(),
         }
@@ -209,9 +213,28 @@ impl Session {
         self.case.ask(command, Expected::Answer(answer));
     }
 
+    /// Makes the run and the table under construction these.
+    pub fn load_run(&mut self, run: Record) {
+        self.case.load_run(&run);
+        self.table = run.table.clone();
+        self.run = run;
+    }
+
+    /// Makes the table under construction this one.
+    pub fn load_table(&mut self, table: &TableRecord) {
+        self.case.load_table(table);
+        self.table = table.clone();
+    }
+
+    /// The run's table becomes the table under construction.
+    pub fn set_table(&mut self) {
+        self.case.send(Command::SetTable);
+        self.run.table = self.table.clone();
+    }
+
     /// Start from a table; an accepted one becomes the run.
     pub fn start(&mut self, table: &TableRecord) -> Result<(), Refusal> {
-        self.case.load_table(table);
+        self.load_table(table);
         let answer = start(table).map(|run| self.run = run);
         self.ask(Command::Start, Answer::plain(answer));
         answer
@@ -262,6 +285,46 @@ impl Session {
         let expected = Expected::Tally(self.tally);
         self.case.ask(Command::DumpTally, expected);
         answer
+    }
+
+    /// Reads a rules text; an accepted table becomes the table under
+    /// construction. Its slots past the counts are free.
+    pub fn read_rules(&mut self, text: Vec<u8>) -> Result<(), Refusal> {
+        let answer = read_rules(&text).map(|rules| self.table = table_of(&rules));
+        self.ask(Command::ReadRules(text), Answer::plain(answer));
+        answer
+    }
+
+    /// Reads a cycle text; an accepted one gives the run its events. The slots
+    /// past the count are free.
+    pub fn read_cycle(&mut self, text: Vec<u8>) -> Result<(), Refusal> {
+        let answer = read_cycle(&text).map(|events| {
+            self.run.count = events.len() as u64;
+            self.run.events[..events.len()].copy_from_slice(&events);
+        });
+        self.ask(Command::ReadCycle(text), Answer::plain(answer));
+        answer
+    }
+
+    /// Writes the rules of the table under construction into n bytes.
+    pub fn write_rules(&mut self, n: u64) -> Result<usize, Refusal> {
+        let mut buffer = buffer_of(n);
+        let answer = write_rules_of(&self.table, &mut buffer);
+        self.ask_written(Command::WriteRules { n }, answer, buffer);
+        answer
+    }
+
+    /// Writes the events of the run into n bytes.
+    pub fn write_cycle(&mut self, n: u64) -> Result<usize, Refusal> {
+        let mut buffer = buffer_of(n);
+        let answer = write_cycle_of(&self.run, &mut buffer);
+        self.ask_written(Command::WriteCycle { n }, answer, buffer);
+        answer
+    }
+
+    fn ask_written(&mut self, command: Command, answer: Result<usize, Refusal>, buffer: Vec<u8>) {
+        let answer = Answer::written(answer);
+        self.case.ask(command, Expected::Written { answer, buffer });
     }
 
     /// The notebook reading of two texts; an accepted run becomes the run.

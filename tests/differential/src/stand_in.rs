@@ -9,6 +9,8 @@ use evaluator::{absorb, notebook_record, place, read_cycle, read_rules, start, v
 use evaluator::{Comparison, ConditionSlot, Event, Operator, Record, Reference, Refusal};
 use evaluator::{RuleSlot, Standing, TableRecord, Tally, Text};
 
+mod written;
+
 /// A mistake to be found.
 #[derive(Debug, Clone, Copy, PartialEq, Eq)]
 pub enum Mistake {
@@ -39,12 +41,32 @@ pub enum Mistake {
     NamesTheNext,
     /// A refused absorb has counted the cycle.
     CountsRefused,
+    /// Bytes beyond a written text become 0.
+    ZeroesTheRest,
+    /// -2147483648 is written as -2147483647.
+    ChangesTheLeast,
+    /// A writer answers the size of the buffer.
+    AnswersTheRoom,
+    /// A buffer that is just as long as the text is refused with 15.
+    RefusesTheExactLength,
+    /// The events of a closed run are refused with 9.
+    RefusesClosed,
+    /// An empty buffer is refused with 15 before 11 is looked for.
+    ShortFirst,
+    /// 15 comes with line 0.
+    ShortWithLine,
+    /// A writer has filled the buffer when it refuses with 15.
+    WritesRefused,
+    /// Events are written whatever the standings are.
+    WritesUncheckedStandings,
+    /// The rules of the run are written, not those under construction.
+    WritesTheRunsRules,
     /// The last four bytes of the answers are missing.
     EndsEarly,
 }
 
 impl Mistake {
-    pub const ALL: [Mistake; 14] = [
+    pub const ALL: [Mistake; 24] = [
         Mistake::NeverOpen,
         Mistake::JudgesAnew,
         Mistake::ClearsRows,
@@ -58,6 +80,16 @@ impl Mistake {
         Mistake::ReadsBlanksAsZero,
         Mistake::NamesTheNext,
         Mistake::CountsRefused,
+        Mistake::ZeroesTheRest,
+        Mistake::ChangesTheLeast,
+        Mistake::AnswersTheRoom,
+        Mistake::RefusesTheExactLength,
+        Mistake::RefusesClosed,
+        Mistake::ShortFirst,
+        Mistake::ShortWithLine,
+        Mistake::WritesRefused,
+        Mistake::WritesUncheckedStandings,
+        Mistake::WritesTheRunsRules,
         Mistake::EndsEarly,
     ];
 }
@@ -284,6 +316,7 @@ impl State {
                 }
                 self.answer(answer.err(), [0; 12]);
             }
+            b'w' | b'W' => self.write(read.b(0), read.n()),
             other => panic!("{} is no command", char::from(other)),
         }
     }

@@ -1,7 +1,7 @@
 //! The comparison itself: it agrees with the evaluator behind `probe`'s
 //! commands, and each kind of cases finds the mistakes that are put there.
 
-use differential::cases::{causes, notebook, records, running, tally, texts};
+use differential::cases::{causes, notebook, records, running, tally, texts, written};
 use differential::compare::compare;
 use differential::script::Case;
 use differential::stand_in::{Mistake, StandIn};
@@ -47,6 +47,24 @@ fn tally_cases() -> Vec<Case> {
     (1..=100).map(tally::case).collect()
 }
 
+fn written_cases() -> Vec<Case> {
+    (1..=60).map(written::case).collect()
+}
+
+fn written_grown_cases() -> Vec<Case> {
+    (1..=20).map(written::grown_case).collect()
+}
+
+fn written_again_cases() -> Vec<Case> {
+    (1..=40).map(written::again_case).collect()
+}
+
+fn written_cause_cases() -> Vec<Case> {
+    let causes = (0..).zip(causes::causes(true)).step_by(9);
+    let causes = causes.map(|(number, (_, run))| written::listed_case(number, run));
+    causes.collect()
+}
+
 #[test]
 fn the_evaluator_agrees_with_itself() {
     let program = StandIn {
@@ -62,11 +80,15 @@ fn the_evaluator_agrees_with_itself() {
         pair_cases(),
         notebook_cases(),
         tally_cases(),
+        written_cases(),
+        written_grown_cases(),
+        written_again_cases(),
+        written_cause_cases(),
     ];
     let counts = compare(&program, cases.concat());
     let counts = counts.unwrap_or_else(|difference| panic!("{difference}"));
-    assert!(counts.cases > 500, "{counts}");
-    for letter in ['s', 'e', 'x', 'g', 'o', 'b', 'R', 'Y', 'N'] {
+    assert!(counts.cases > 600, "{counts}");
+    for letter in ['s', 'e', 'x', 'g', 'o', 'b', 'R', 'Y', 'N', 'w', 'W'] {
         let accepted = counts.answered(letter, 0);
         assert!(accepted > 0 && counts.calls(letter) > accepted, "{letter}");
     }
@@ -75,7 +97,7 @@ fn the_evaluator_agrees_with_itself() {
 /// A mistake, and the cases that have to find it.
 type Finder = (Mistake, fn() -> Vec<Case>);
 
-const FINDERS: [Finder; 17] = [
+const FINDERS: [Finder; 36] = [
     (Mistake::NeverOpen, running_cases),
     (Mistake::JudgesAnew, stale_cases),
     (Mistake::ClearsRows, record_cases),
@@ -92,6 +114,25 @@ const FINDERS: [Finder; 17] = [
     (Mistake::NamesTheNext, pair_cases),
     (Mistake::NamesTheNext, notebook_cases),
     (Mistake::CountsRefused, tally_cases),
+    (Mistake::ZeroesTheRest, written_cases),
+    (Mistake::ZeroesTheRest, written_grown_cases),
+    (Mistake::ZeroesTheRest, written_again_cases),
+    (Mistake::ChangesTheLeast, written_cases),
+    (Mistake::ChangesTheLeast, written_again_cases),
+    (Mistake::AnswersTheRoom, written_cases),
+    (Mistake::RefusesTheExactLength, written_cases),
+    (Mistake::RefusesTheExactLength, written_again_cases),
+    (Mistake::RefusesClosed, written_cases),
+    (Mistake::RefusesClosed, written_grown_cases),
+    (Mistake::RefusesClosed, written_again_cases),
+    (Mistake::ShortFirst, written_cases),
+    (Mistake::ShortFirst, written_cause_cases),
+    (Mistake::ShortWithLine, written_cases),
+    (Mistake::WritesRefused, written_cases),
+    (Mistake::WritesRefused, written_again_cases),
+    (Mistake::WritesUncheckedStandings, written_cases),
+    (Mistake::WritesUncheckedStandings, written_cause_cases),
+    (Mistake::WritesTheRunsRules, written_cases),
     (Mistake::EndsEarly, running_cases),
 ];
 

@@ -40,8 +40,7 @@ fn order_case(seed: u64, tally: Tally) -> Case {
         assert_eq!(session.absorb(rule), Err(Refusal::plain(11)));
     }
     for (run, answer) in [(running(), 9), (closed(), 14)] {
-        session.case.load_run(&run);
-        session.run = run;
+        session.load_run(run);
         for rule in [0, 3, 16, 17, 256, 257, (1 << 32) + 1, u64::MAX] {
             assert_eq!(session.absorb(rule), Err(Refusal::plain(10)));
         }

@@ -191,6 +191,64 @@ pub fn fill_unused(random: &mut Random, record: &mut Record) {
     }
 }
 
+/// Gives the rules and events in use numbers with every count of digits, all of
+/// them within the limits. The counts have to be within theirs.
+pub fn spread_numbers(random: &mut Random, record: &mut Record) {
+    for rule in &mut record.table.rules[..record.table.count as usize] {
+        spread_rule(random, rule);
+    }
+    let events = &mut record.events[..record.count as usize];
+    let mut times: Vec<u32> = events.iter().map(|_| any_number(random)).collect();
+    times.sort();
+    for (event, time) in events.iter_mut().zip(times) {
+        *event = Event::new(time, any_activity(random));
+        for reading in &mut event.readings {
+            let value = any_signed(random);
+            *reading = Some(value).filter(|_| !random.one_in(4));
+        }
+    }
+}
+
+fn spread_rule(random: &mut Random, rule: &mut RuleSlot) {
+    rule.code = 1 + random.below(12) as u8;
+    rule.activation = any_activity(random);
+    rule.target = any_activity(random);
+    let (one, other) = (any_number(random), any_number(random));
+    rule.a = one.min(other);
+    rule.end = Some(one.max(other)).filter(|end| *end > rule.a && !random.one_in(4));
+    for condition in [&mut rule.activation_condition, &mut rule.correlation] {
+        let used = usize::from(condition.count);
+        for comparison in &mut condition.comparisons[..used] {
+            let (Reference::Constant(k) | Reference::Activation { plus: k, .. }) =
+                &mut comparison.reference;
+            *k = any_signed(random);
+        }
+    }
+}
+
+fn any_activity(random: &mut Random) -> u8 {
+    1 + random.below(64) as u8
+}
+
+/// A power of ten, the number below one, or a number with any count of bits.
+fn any_number(random: &mut Random) -> u32 {
+    let power = 10_u32.pow(random.below(10) as u32);
+    match random.below(4) {
+        0 => power,
+        1 => power - 1,
+        _ => (random.bits() as u32) >> random.below(32),
+    }
+}
+
+/// The same with either sign, as 32 bits hold it.
+fn any_signed(random: &mut Random) -> i32 {
+    let number = any_number(random) as i32;
+    match random.one_in(2) {
+        true => number.wrapping_neg(),
+        false => number,
+    }
+}
+
 /// An event to take: mostly the next of a cycle, now and then with a wrong
 /// activity or a time that falls.
 pub fn random_event(random: &mut Random, record: &Record) -> Event {

@@ -1,7 +1,8 @@
 //! Separate evaluator of MP-Declare rules on ride cycles.
 //!
-//! It states each notion of document 01 a second time, for tests that compare
-//! two answers. Positions count from 1, as in document 01.
+//! It states each notion of document 01 a second time, as the cards of document
+//! 02 change it, for tests that compare two answers. Positions count from 1, as
+//! in document 01.
 //!
 //! Judging:
 //!
@@ -18,6 +19,8 @@
 //! - [`record`]: run records as a caller may fill them ([`Record`]), with
 //!   [`start`], take, close, standing and totals.
 //! - [`text`]: the readers and writers of the two texts.
+//! - [`written`]: [`write_rules_of`] and [`write_cycle_of`] write the texts of a
+//!   table and of a run into a lent buffer.
 //! - [`mod@notebook`]: [`notebook()`] judges two texts.
 //! - [`mod@report`]: [`report()`] gives the bytes that the program prints.
 //! - [`tally`]: [`absorb`] adds a closed run to a [`Tally`].
@@ -27,6 +30,10 @@
 //! - [`random`]: rules and cycles around the critical values.
 //! - [`damage`]: texts, valid and damaged.
 //! - [`fabricate`]: run records, grown and changed.
+//!
+//! Test cases in files:
+//!
+//! - [`stored`]: the texts of tests/cases and examples/.
 
 pub mod condition;
 pub mod damage;
@@ -39,9 +46,11 @@ pub mod record;
 pub mod refusal;
 pub mod report;
 pub mod slots;
+pub mod stored;
 pub mod tally;
 pub mod text;
 pub mod verdict;
+pub mod written;
 
 pub use live::{outcomes_in, standing, standing_at_last, standing_in, standings};
 pub use model::{is_cycle, Comparison, Event, Operator, Reference, Rule, Standing, World};
@@ -53,3 +62,4 @@ pub use slots::{ConditionSlot, EventSlot, RuleSlot, TableRecord};
 pub use tally::{absorb, Tally};
 pub use text::{read_cycle, read_rules, write_cycle, write_rules};
 pub use verdict::{eligible, is_activation, suits, verdict, verdicts};
+pub use written::{write_cycle_of, write_rules_of};

@@ -72,7 +72,7 @@ fn is_wrong_taken(standing: Standing, count: usize, closed: bool) -> bool {
 
 impl Record {
     /// The rules of the table and the number of events, or refusal 11.
-    fn checked(&self) -> Result<(Vec<Rule>, usize), Refusal> {
+    pub(crate) fn checked(&self) -> Result<(Vec<Rule>, usize), Refusal> {
         self.parts_within_limits().ok_or(Refusal::plain(11))
     }
 

@@ -1,7 +1,10 @@
-//! The refusals of document 01, "When a call is refused".
+//! The refusals of document 01, "When a call is refused", and those that the
+//! cards of document 02 add.
 
 /// A refusal as the table's column "Returned" has it: a number, and a line
-/// where the column names one. From take the line of 3, 7 and 8 is 0.
+/// where the column names one. From take the line of 3, 7 and 8 is 0. Of the
+/// cards' numbers "a number caused by a line comes with that line", so 15 has
+/// none.
 #[derive(Debug, Clone, Copy, PartialEq, Eq, PartialOrd, Ord, Hash)]
 pub struct Refusal {
     pub number: u8,

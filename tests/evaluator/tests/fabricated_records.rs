@@ -4,8 +4,8 @@
 use evaluator::fabricate::{fabricated, fill_unused, random_event, random_record};
 use evaluator::random::Random;
 use evaluator::Standing::{self, Fulfilled, Idle, Open, Violated};
-use evaluator::{absorb, place, start, verdicts, ConditionSlot, Record, Reference, Refusal};
-use evaluator::{RuleSlot, Tally};
+use evaluator::{absorb, place, start, verdicts, write_cycle_of, write_rules_of};
+use evaluator::{ConditionSlot, Record, Reference, Refusal, RuleSlot, Tally};
 use std::collections::BTreeMap;
 
 const OUTSIDE: Refusal = Refusal::plain(11);
@@ -103,11 +103,20 @@ fn every_call_refuses_the_same_records_with_11() {
             record.standing(rule, random.bits() % 9).err(),
             record.totals(rule).err(),
             absorb(&record, rule, &mut tally).err(),
+            write_cycle_of(&record, &mut [0; 16_000]).err(),
+            write_cycle_of(&record, &mut []).err(),
         ];
         for answer in answers {
             assert_eq!(answer == Some(OUTSIDE), outside, "{answers:?}");
         }
-        assert_eq!(start(&record.table).is_err(), wrong_table(&record));
+        let answers = [
+            start(&record.table).err(),
+            write_rules_of(&record.table, &mut [0; 3000]).err(),
+            write_rules_of(&record.table, &mut []).err(),
+        ];
+        for answer in answers {
+            assert_eq!(answer == Some(OUTSIDE), wrong_table(&record));
+        }
     }
     assert!(seen.iter().all(|count| *count > 1000), "{seen:?}");
 }

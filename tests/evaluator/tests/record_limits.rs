@@ -4,8 +4,9 @@
 
 use evaluator::Operator::{Equal, Less};
 use evaluator::Standing::{self, Fulfilled, Idle, Open, Violated};
-use evaluator::{absorb, grown, place, start, Comparison, ConditionSlot, Event, Record, Refusal};
-use evaluator::{Rule, RuleSlot, TableRecord, Tally};
+use evaluator::{absorb, grown, place, start, write_cycle_of, write_rules_of};
+use evaluator::{Comparison, ConditionSlot, Event, Record, Refusal, Rule, RuleSlot};
+use evaluator::{TableRecord, Tally};
 
 const OUTSIDE: Refusal = Refusal::plain(11);
 const WIDE_COUNTS: [u64; 6] = [255, 257, 1 << 16, 1 << 32, (1 << 32) + 2, u64::MAX];
@@ -27,9 +28,10 @@ fn changed(change: impl FnOnce(&mut Record)) -> Record {
 }
 
 /// Whether every call on the record is refused with 11. It may not be some of
-/// them alone, and the record and the tally stay as they were.
+/// them alone, and the record, the tally and the buffer stay as they were.
 fn is_outside(record: &Record) -> bool {
     let mut tally = Tally::default();
+    let mut buffer = [b'x'; 16_000];
     let taken = record.clone().take(Event::new(u32::MAX, 1));
     let closed = record.clone().close();
     let answers = [
@@ -38,18 +40,20 @@ fn is_outside(record: &Record) -> bool {
         record.standing(1, 1).err(),
         record.totals(1).err(),
         absorb(record, 1, &mut tally).err(),
+        write_cycle_of(record, &mut buffer).err(),
     ];
     let outside = answers.iter().filter(|a| **a == Some(OUTSIDE)).count();
-    assert!(outside == 0 || outside == 5, "{answers:?}");
-    if outside == 5 {
+    assert!(outside == 0 || outside == answers.len(), "{answers:?}");
+    if outside == answers.len() {
         assert!(taken.0 == *record && closed.0 == *record);
         assert_eq!(tally, Tally::default());
+        assert_eq!(buffer, [b'x'; 16_000]);
     }
-    outside == 5
+    outside == answers.len()
 }
 
-/// Whether start refuses a table of two rules, the second one changed. A run
-/// with the same table has to be refused in the same cases.
+/// Whether start refuses a table of two rules, the second one changed. Writing
+/// it, and a run with the same table, have to be refused in the same cases.
 fn table_is_outside(change: impl FnOnce(&mut RuleSlot)) -> bool {
     let mut table = TableRecord::of(&[plain(), plain()]);
     change(&mut table.rules[1]);
@@ -63,6 +67,8 @@ fn table_is_outside(change: impl FnOnce(&mut RuleSlot)) -> bool {
             true
         }
     };
+    let written = write_rules_of(&table, &mut [b'x'; 3000]);
+    assert_eq!(written.err(), refused.then_some(OUTSIDE));
     assert_eq!(is_outside(&changed(|record| record.table = table)), refused);
     refused
 }

@@ -8,7 +8,7 @@
 //! was compared, or the first difference. A difference names its kind and seed;
 //! `long THAT_SEED 1 THAT_KIND` shows it again.
 
-use differential::cases::{notebook, records, reports, running, tally, texts};
+use differential::cases::{notebook, records, reports, running, tally, texts, written};
 use differential::compare::compare;
 use differential::counts::Counts;
 use differential::differ::Difference;
@@ -22,7 +22,7 @@ use std::time::Instant;
 type Kind = (&'static str, fn(u64) -> Case);
 
 /// Each kind of case that `probe` answers.
-const KINDS: [Kind; 8] = [
+const KINDS: [Kind; 11] = [
     (running::KIND, running::case),
     (records::KIND, records::case),
     (records::STALE, records::stale_case),
@@ -31,6 +31,9 @@ const KINDS: [Kind; 8] = [
     (texts::PAIRS, texts::pair_case),
     (notebook::KIND, notebook::case),
     (tally::KIND, tally::case),
+    (written::KIND, written::case),
+    (written::GROWN, written::grown_case),
+    (written::AGAIN, written::again_case),
 ];
 
 /// The kinds of long cycles; of these a hundredth of the cases is compared.

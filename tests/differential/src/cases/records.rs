@@ -112,7 +112,8 @@ pub fn stale_case(seed: u64) -> Case {
     session.case
 }
 
-fn stale_run(random: &mut Random, rules: usize, length: usize) -> Record {
+/// So many rules and events, not closed, with any standings within the limits.
+pub fn stale_run(random: &mut Random, rules: usize, length: usize) -> Record {
     let rules = random_rules(random, rules);
     let mut run = start(&table_of(&rules)).expect("a valid table");
     run.count = length as u64;

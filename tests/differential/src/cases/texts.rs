@@ -56,9 +56,14 @@ fn cut(mut text: Vec<u8>) -> Vec<u8> {
     text
 }
 
-/// A rules text: the answer, and the rules or the table as it was.
 pub fn rules_text_case(seed: u64, text: Vec<u8>) -> Case {
     let mut case = Case::new(RULES, seed);
+    compare_rules_text(&mut case, text);
+    case
+}
+
+/// A rules text: the answer, and the rules or the table as it was.
+pub fn compare_rules_text(case: &mut Case, text: Vec<u8>) {
     case.fresh();
     let table = new_table(3);
     case.load_table(&table);
@@ -67,7 +72,7 @@ pub fn rules_text_case(seed: u64, text: Vec<u8>) -> Case {
     case.ask(Command::ReadRules(text), Expected::Answer(answer));
     let expected = match read {
         Ok(rules) => Some(Expected::Rules(rules)),
-        Err(_) if seed.is_multiple_of(UNCHANGED_EVERY) => {
+        Err(_) if case.seed.is_multiple_of(UNCHANGED_EVERY) => {
             let mut run = fresh_run();
             run.table = table;
             Some(Expected::Run(Box::new(run)))
@@ -78,12 +83,16 @@ pub fn rules_text_case(seed: u64, text: Vec<u8>) -> Case {
         case.send(Command::SetTable);
         case.ask(Command::DumpRun, expected);
     }
+}
+
+pub fn cycle_text_case(seed: u64, text: Vec<u8>) -> Case {
+    let mut case = Case::new(CYCLES, seed);
+    compare_cycle_text(&mut case, text);
     case
 }
 
 /// A cycle text: the answer, and the events or the run as it was.
-pub fn cycle_text_case(seed: u64, text: Vec<u8>) -> Case {
-    let mut case = Case::new(CYCLES, seed);
+pub fn compare_cycle_text(case: &mut Case, text: Vec<u8>) {
     let mut run = fresh_run();
     run.count = 2;
     run.events[1] = Event::new(7, 3).with_reading(2, -1);
@@ -93,12 +102,11 @@ pub fn cycle_text_case(seed: u64, text: Vec<u8>) -> Case {
     case.ask(Command::ReadCycle(text), Expected::Answer(answer));
     match read {
         Ok(events) => case.ask(Command::DumpRun, Expected::Events(events)),
-        Err(_) if seed.is_multiple_of(UNCHANGED_EVERY) => {
+        Err(_) if case.seed.is_multiple_of(UNCHANGED_EVERY) => {
             case.ask(Command::DumpRun, Expected::Run(Box::new(run)));
         }
         Err(_) => {}
     }
-    case
 }
 
 fn fresh_run() -> Record {

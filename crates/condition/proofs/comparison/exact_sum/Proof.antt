@@ -2,7 +2,8 @@
 use lib.IntN.{_+ℤ_}
 use mir.Syntax.{w64}
 use mir.Facts.{toZ-ofZ}
-use Rattle.condition.proofs.Widen.{widens, widened, sum-fits}
+use Rattle.declare.proofs.Casts.{widens, widened}
+use Rattle.condition.proofs.Sums.{sum-fits}
 use Rattle.condition.proofs.comparison.exact_sum.Statement.{statement}
 use Rattle.condition.proofs.comparison.exact_sum.Tie as tie
 

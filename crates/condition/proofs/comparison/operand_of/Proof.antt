@@ -1,6 +1,6 @@
 -- A blank is missing; a number is the same number at 64 bits.
 use borrow.Author.Needs.{sfits-of, needs}
-use Rattle.condition.proofs.Widen.{widens, widened}
+use Rattle.declare.proofs.Casts.{widens, widened}
 use Rattle.condition.proofs.comparison.operand_of.Statement.{statement}
 use Rattle.condition.proofs.comparison.operand_of.Tie as tie
 

@@ -4,7 +4,7 @@ use mir.Syntax.{w32}
 use mir.Val.{toZ, ofZ}
 use borrow.Author.Needs.{sfits-of, needs}
 use Rattle.declare.specs.Comparisons.{referenceOf}
-use Rattle.condition.proofs.Widen.{widens, widened}
+use Rattle.declare.proofs.Casts.{widens, widened}
 use Rattle.condition.proofs.comparison.reference_of.Statement.{statement}
 use Rattle.condition.proofs.comparison.reference_of.Tie as tie
 

@@ -9,7 +9,7 @@ use mir.Val.{toZ, ofZ}
 use mir.Facts.{toZ-ofZ}
 use Rattle.declare.specs.Events.{greatest}
 use Rattle.declare.specs.Reachability.{after}
-use Rattle.condition.proofs.Widen.{after-fits}
+use Rattle.condition.proofs.Sums.{after-fits}
 use Rattle.condition.proofs.reachability.after.Statement.{statement}
 use Rattle.condition.proofs.reachability.after.Tie as tie
 

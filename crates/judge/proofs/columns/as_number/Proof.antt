@@ -1,7 +1,7 @@
 -- A number is the same number at 64 bits, and not past the greatest reading.
 use borrow.Author.Needs.{needs, sfits-of}
 use Rattle.declare.specs.Events.{greatest}
-use Rattle.condition.proofs.Widen.{widens, widened}
+use Rattle.declare.proofs.Casts.{widens, widened}
 use Rattle.judge.proofs.ByColumn.{not-past}
 use Rattle.judge.proofs.columns.as_number.Statement.{statement}
 use Rattle.judge.proofs.columns.as_number.Tie as tie

@@ -1,5 +1,5 @@
--- Signed numbers of 32 bits as ones of 64, and the sums of 64 bits that do not wrap.
-use mathlib.Core.Path.{_≡_, refl, ap, _∙_}
+-- Sums of 64 bits that do not wrap.
+use mathlib.Core.Path.{_≡_, refl}
 use mathlib.Core.Bool.{Bool, true, false, cond}
 use Prim.Native.Nat.{ℕ, zero, suc, _+_, _-_, _≤_}
 use native.Mathlib.Omega.{arith}
@@ -8,17 +8,8 @@ use lib.IntN.{ℤ, pos, negsuc, _+ℤ_, subℕ, +ℤ-one}
 use lib.Signed.{mag, ltZ}
 use lib.Dec.{ltb}
 use mir.Syntax.{w32, w64}
-use mir.Val.{SFits, toZ, ofZ}
-use mir.Facts.{sfits-widen, toZ-ofZ}
+use mir.Val.{SFits}
 use Rattle.declare.specs.Events.{greatest}
-
--- a cast reads the number from its 32 bits and writes it at 64
-module _ {z : ℤ} (fits : SFits w32 z) where
-  pub widens : SFits w64 (toZ w32 (ofZ w32 z))
-  widens = rw (toZ-ofZ {w = w32} {z = z} fits) (sfits-widen {w = w32} {w′ = w64} {z = z} tt fits)
-
-  pub widened : toZ w64 (ofZ w64 (toZ w32 (ofZ w32 z))) ≡ z
-  widened = ap (λ (y : ℤ). toZ w64 (ofZ w64 y)) (toZ-ofZ {w = w32} {z = z} fits) ∙ toZ-ofZ {w = w64} {z = z} (sfits-widen {w = w32} {w′ = w64} {z = z} tt fits)
 
 mag-sub : (a b : ℕ) → mag (subℕ a b) ≤ a + b
 mag-sub a b = go (ltb a b) refl

@@ -1,0 +1,2 @@
+-- The laws of what is put into a buffer.
+pub mod Puts

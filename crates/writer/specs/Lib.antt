@@ -1,0 +1,2 @@
+-- What the calls that write records as texts promise.
+pub mod Writer
