@@ -10,6 +10,7 @@ mod judge;
 mod run;
 mod text;
 mod types;
+mod write;
 
 use copies::Copies;
 use std::hint::black_box;
@@ -165,6 +166,18 @@ fn notebooks(letter: u8, rules: &[u8], cycles: &[&[u8]], turns: usize) -> u64 {
     sum
 }
 
+/// The record written so often, and then every byte of the buffer.
+fn written(turns: usize, mut write: impl FnMut(&mut [u8]) -> Result<usize, Cause>) -> u64 {
+    let mut out = vec![0; 65536];
+    let mut sum = 0;
+    for _ in 0..turns {
+        let answer = write(black_box(&mut out));
+        sum = joined(sum, answer.map_or_else(u64::from, |length| length as u64));
+    }
+    let bytes = out.iter().fold(0, |sum, &b| joined(sum, b as u64));
+    joined(sum, bytes)
+}
+
 fn cycle_calls(letter: u8, turns: usize, rules: &[u8], cycle: &[u8], copies: &mut Copies) -> u64 {
     let table = text::read_rules(rules).unwrap();
     let read = text::read_cycle(cycle).unwrap();
@@ -173,6 +186,11 @@ fn cycle_calls(letter: u8, turns: usize, rules: &[u8], cycle: &[u8], copies: &mu
     match letter {
         b't' | b'k' => takes(letter, &judged(&table, before), *last, turns, copies),
         b'x' => takes(letter, &judged(&table, events), *last, turns, copies),
+        b'w' => {
+            let run = judged(&table, events);
+            written(turns, |out| write::write_cycle(black_box(&run), out))
+        }
+        b'p' => written(turns, |out| write::write_rules(black_box(&table), out)),
         b'c' => cycles(&table, events, turns, copies),
         _ => asked(letter, &judged(&table, events), turns, copies),
     }

@@ -36,7 +36,7 @@ fn valid_rule(r: &Rule) -> bool {
         && valid_condition(true, &r.correlation)
 }
 
-fn valid_table(t: &Table) -> bool {
+pub fn valid_table(t: &Table) -> bool {
     t.count <= 16 && t.rules[..t.count].iter().all(valid_rule)
 }
 
@@ -64,7 +64,7 @@ fn valid_row(closed: bool, count: usize, row: &[Standing]) -> bool {
         && row[count..].iter().all(|&s| s == Standing::Idle)
 }
 
-fn valid_run(run: &Run) -> bool {
+pub fn valid_run(run: &Run) -> bool {
     valid_table(&run.table)
         && run.count <= 256
         && valid_events(&run.events[..run.count])

@@ -1,5 +1,6 @@
 // The calls of a running cycle.
 use crate::weight;
+use crate::written;
 use declare::EVENTS;
 use declare::Event;
 use declare::RULES;
@@ -105,6 +106,8 @@ pub fn measured(letter: u8, turns: usize, rules: &[u8], cycle: &[u8]) -> u64 {
         ),
         b'c' => cycles(table, events, n, turns),
         b'x' => closes(judged(table, events, n), turns),
+        b'w' => written::cycles(judged(table, events, n), turns),
+        b'p' => written::rules(table, turns),
         b's' => standings(judged(table, events, n), turns),
         _ => totals(judged(table, events, n), turns),
     }

@@ -1,4 +1,5 @@
 // Answers made numbers, so that none of them is left out by the compiler.
+use buffer::WriteAnswer;
 use declare::Standing;
 use run::Outcome;
 use run::Run;
@@ -54,6 +55,22 @@ pub fn of_totals(a: TotalsAnswer) -> u64 {
         ),
         TotalsAnswer::Refused(refusal) => of_byte(declare::number_of(refusal)),
     }
+}
+
+pub fn of_written(a: WriteAnswer) -> u64 {
+    match a {
+        WriteAnswer::Written(length) => of_position(length),
+        WriteAnswer::Refused(refusal) => of_byte(declare::number_of(refusal)),
+    }
+}
+
+// Every byte of a buffer.
+pub fn of_text(bytes: &[u8]) -> u64 {
+    let mut sum: u64 = 0;
+    for i in 0..bytes.len() {
+        sum = joined(sum, of_byte(bytes[i]));
+    }
+    sum
 }
 
 // The first cell and the count only.

@@ -1,2 +1,4 @@
--- The laws of what is put into a buffer.
+-- The laws of what is put into a buffer, and of calls that write there.
 pub mod Puts
+pub mod Writes
+pub mod Cases

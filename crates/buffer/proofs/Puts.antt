@@ -6,8 +6,8 @@ use Prim.Native.Nat.{ℕ, zero, suc, _+_, _≤_, _<_}
 use native.Mathlib.Omega.{arith}
 use native.Mathlib.Numerals.{add-one}
 use borrow.Author.Tests.{lt-ltb, le-ltb}
-use lib.ListN.{length, set, drop, length-set, length-append}
-use lib.Seq.{set-out, set-append-seam}
+use lib.ListN.{length, set, take, drop, length-set, length-append}
+use lib.Seq.{set-out, set-append-seam, take-append-seam}
 use Rattle.buffer.specs.Puts.{next, placeAfter, stored, Puts}
 
 -- ---- the place
@@ -106,3 +106,8 @@ puts-front {xs} {l} h a = (
   a .stores ∙ stored-front l xs h,
   a .ends ∙ place-in (length l) 0 xs (omega arith) ∙ omega arith,
 )
+
+pub puts-taken : {xs l m : List ℕ} {p : ℕ} → length xs ≤ length l → Puts xs l 0 m p → take p m ≡ xs
+puts-taken {xs} {l} h a =
+    let e = puts-front h a in
+    rw (e .0, e .1) (take-append-seam xs (drop (length xs) l))

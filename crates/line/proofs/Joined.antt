@@ -30,7 +30,7 @@ module _ (b x : ℕ) (s : List ℕ) (h : lacks b (x ∷ s) ≡ true) where
       go true e = absurd (false≢true (rw e at h))
       go false e = (e, rw e at h)
 
-lacks-append : (b : ℕ) (xs ys : List ℕ) → lacks b xs ≡ true → lacks b ys ≡ true → lacks b (xs ++ ys) ≡ true
+pub lacks-append : (b : ℕ) (xs ys : List ℕ) → lacks b xs ≡ true → lacks b ys ≡ true → lacks b (xs ++ ys) ≡ true
 unfolding lacks
 lacks-append b [] ys h l = l
 lacks-append b (x ∷ xs) ys h l =

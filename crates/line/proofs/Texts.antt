@@ -4,12 +4,13 @@
 use mathlib.Core.Path.{_≡_, refl, sym, _∙_, ap}
 use mathlib.Core.Bool.{Bool, true, false}
 use mathlib.Core.List.{List, [], _∷_, _++_, append-nil, append-assoc}
-use Prim.Native.Nat.{ℕ, _<_}
+use Prim.Native.Nat.{ℕ, _+_, _<_}
 use native.Mathlib.Omega.{arith}
+use native.Mathlib.Numerals.{add-one}
 use borrow.Author.Tests.{ltb-false}
 use lib.Dec.{ltb}
-use lib.ListN.{length}
-use lib.Seq.{take-all}
+use lib.ListN.{length, take, getD}
+use lib.Seq.{take-all, take-suc}
 use Rattle.declare.specs.Lists.{all}
 use Rattle.number.specs.Number.{none}
 use Rattle.line.specs.Fields.{LF, tab, indexOf, before, following, split, eachAfter, joined}
@@ -42,6 +43,21 @@ line-then holds f s = go (ltb (indexOf LF s) (length s)) refl
 
 -- ---- the written lines of records
 
+-- fields, each with the byte that ends it
+abbrev pub ended : List (List ℕ) → List ℕ
+ended [] = LF ∷ []
+ended (f ∷ []) = f ++ (LF ∷ [])
+ended (f ∷ g ∷ fs) = (f ++ (tab ∷ [])) ++ ended (g ∷ fs)
+
+pub line-ended : (fields : List (List ℕ)) → joined tab fields ++ (LF ∷ []) ≡ ended fields
+unfolding joined eachAfter
+line-ended [] = refl
+line-ended (f ∷ []) = rw (append-nil f)
+line-ended (f ∷ g ∷ fs) =
+    append-assoc f (tab ∷ joined tab (g ∷ fs)) (LF ∷ [])
+    ∙ ap (λ (s : List ℕ). f ++ (tab ∷ s)) (line-ended (g ∷ fs))
+    ∙ sym (append-assoc f (tab ∷ []) (ended (g ∷ fs)))
+
 module _ {A : Type 0} (fieldsOf : A → List (List ℕ)) where
   -- the fields of a record can be told from a line
   pub record Parted (r : A) : Type 0 where
@@ -58,11 +74,15 @@ module _ {A : Type 0} (fieldsOf : A → List (List ℕ)) where
   split-line r s h =
       rw (append-assoc (joined tab (fieldsOf r)) (LF ∷ []) s) (split-before LF (joined tab (fieldsOf r)) s (lacks-joined LF tab (fieldsOf r) refl h))
 
-  written-snoc : (above : List A) (r : A) → writtenText fieldsOf (above ++ (r ∷ [])) ≡ writtenText fieldsOf above ++ writtenLine fieldsOf r
+  pub written-snoc : (above : List A) (r : A) → writtenText fieldsOf (above ++ (r ∷ [])) ≡ writtenText fieldsOf above ++ writtenLine fieldsOf r
   unfolding writtenText
   written-snoc [] r = append-nil (writtenLine fieldsOf r)
   written-snoc (q ∷ above) r =
       ap (λ (k : List ℕ). writtenLine fieldsOf q ++ k) (written-snoc above r) ∙ sym (append-assoc (writtenLine fieldsOf q) (writtenText fieldsOf above) (writtenLine fieldsOf r))
+
+  -- the text of the first records, and one more
+  pub written-taken : (rs : List A) (k : ℕ) (none : A) → k < length rs → writtenText fieldsOf (take (k + 1) rs) ≡ writtenText fieldsOf (take k rs) ++ writtenLine fieldsOf (getD rs k none)
+  written-taken rs k none h = rw (add-one k, take-suc rs k none h) (written-snoc (take k rs) (getD rs k none))
 
   -- the text of some records and one more, before further bytes
   written-more : (above : List A) (r : A) (line more : List ℕ) → joined tab (fieldsOf r) ≡ line → writtenText fieldsOf (above ++ (r ∷ [])) ++ more ≡ writtenText fieldsOf above ++ (line ++ (LF ∷ more))

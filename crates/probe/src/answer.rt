@@ -60,6 +60,15 @@ pub fn standing(s: Standing) {
     io::write_all(1, &answer);
 }
 
+// Of a text that was written, at most 65536 bytes.
+pub fn written(length: usize) {
+    let mut answer = [0u8; 16];
+    answer[8] = (length % 256) as u8;
+    answer[9] = (length / 256 % 256) as u8;
+    answer[10] = (length / 65536 % 256) as u8;
+    io::write_all(1, &answer);
+}
+
 pub fn totals(t: Totals) {
     let mut answer = [0u8; 16];
     answer[8] = low(t.activations);

@@ -13,6 +13,7 @@ mod answer; // answer.rt: answers of 16 bytes
 mod calls; // calls.rt: the library's calls
 mod dump; // dump.rt: standings, and the whole run
 mod text; // text.rt: texts that follow a command
+mod written; // written.rt: texts written back
 mod day; // day.rt: the tally
 
 pub struct State {
@@ -54,6 +55,16 @@ fn change_run(table: Table, run: Run, command: [u8; 32]) -> Run {
         89 => text::cycle(run, command),
         // N
         78 => text::notebook(run, command),
+        // w
+        119 => {
+            written::rules(table, command);
+            run
+        },
+        // W
+        87 => {
+            written::cycle(run, command);
+            run
+        },
         // d
         100 => dump::standings(run),
         // D

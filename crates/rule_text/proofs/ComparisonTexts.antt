@@ -12,10 +12,10 @@ use lib.ListN.{getD}
 use Rattle.declare.specs.declared.Operand.the-variants.{Exact}
 use Rattle.declare.specs.Events.{inRange}
 use Rattle.declare.specs.Rules.{isReading, validReference, validComparison}
-use Rattle.declare.proofs.Booleans.{and-left, and-right, both, both₃, and₃}
+use Rattle.declare.proofs.Booleans.{and-left, and-right, both, both₃, and₂, and₃}
 use Rattle.declare.proofs.Satisfiability.{one-of-four}
 use Rattle.number.specs.Number.{digit, digits, integerOf}
-use Rattle.number.specs.Written.{digitsOf, integerText}
+use Rattle.number.specs.Written.{digitsIn, digitsOf, integerText}
 use Rattle.number.proofs.Digits.{digit-high}
 use Rattle.number.proofs.Written.{written-digits, read-integer, integer-read}
 use Rattle.declare.specs.Answers.{Answer, accepted, _>>=_, _>>_, require}
@@ -26,6 +26,10 @@ use Rattle.rule_text.specs.Comparisons.{operatorByte, readingDigit, digi
 use Rattle.rule_text.specs.Written.{referenceText, comparisonText}
 
 -- ---- a reading's digit
+
+pub reading-digit : (r : ℕ) → isReading r ≡ true → digitsOf r ≡ (48 + r) ∷ []
+unfolding digitsOf digitsIn
+reading-digit r h = one-of-four (λ k. digitsOf k ≡ (48 + k) ∷ []) refl refl refl refl r h
 
 digit-written : (r : ℕ) → isReading r ≡ true → digitOf (48 + r) ≡ accepted r
 unfolding digitOf readingDigit require _>>_
@@ -100,7 +104,7 @@ unfolding validReference referenceField referenceText constantField activationFi
 reference-written correlation (Constant k) h = rw (k-first k, k-written k h)
 reference-written correlation (Activation g k) h =
     let w = and₃ {a = correlation} {b = isReading g} {c = inRange (Exact k)} h in
-    rw (w .0, digit-written g (w .1), k-written k (w .2))
+    rw (reading-digit g (w .1)) (rw (w .0, digit-written g (w .1), k-written k (w .2)))
 
 pub record ReferenceRead (correlation : Bool) (field : List ℕ) (x : Reference) : Type 0 where
   pub text : referenceText x ≡ field
@@ -118,7 +122,7 @@ unfolding referenceText validReference
 activation-is correlation b p g s k e h i j =
     let w = digit-read b g h in
     let v = k-read s k j in
-    record { text = rw (w .0, eqb-true p 58 i, v .0); valid = both₃ e (w .1) (v .1) }
+    record { text = rw (reading-digit g (w .1), w .0, eqb-true p 58 i, v .0); valid = both₃ e (w .1) (v .1) }
 
 activation-read : (correlation : Bool) (field : List ℕ) (x : Reference) → correlation ≡ true → activationField field ≡ accepted x → ReferenceRead correlation (64 ∷ field) x
 unfolding activationField digitOf readingDigit require _>>=_ _>>_
@@ -148,7 +152,9 @@ reference-read correlation (b ∷ s) x h = go (eqb b 64) refl h
 pub comparison-written : (correlation : Bool) (c : Comparison) → validComparison correlation c ≡ true → comparisonField correlation (comparisonText c) ≡ accepted c
 unfolding validComparison comparisonField comparisonText _>>=_
 comparison-written correlation c h =
-    rw (digit-written (c .reading) (and-left (isReading (c .reading)) (validReference correlation (c .reference)) h), operator-written (c .operator), reference-written correlation (c .reference) (and-right (isReading (c .reading)) (validReference correlation (c .reference)) h))
+    let p : (isReading (c .reading) ≡ true) × (validReference correlation (c .reference) ≡ true) = and₂ h in
+    rw (reading-digit (c .reading) (p .0))
+    (rw (digit-written (c .reading) (p .0), operator-written (c .operator), reference-written correlation (c .reference) (p .1)))
 
 pub record ComparisonRead (correlation : Bool) (field : List ℕ) (c : Comparison) : Type 0 where
   pub text : comparisonText c ≡ field
@@ -159,7 +165,7 @@ unfolding comparisonText validComparison
 comparison-is correlation b p r o s x h i j =
     let w = digit-read b r h in
     let v = reference-read correlation s x j in
-    record { text = rw (w .0, operator-read p o i, v .text); valid = both (w .1) (v .valid) }
+    record { text = rw (reading-digit r (w .1), w .0, operator-read p o i, v .text); valid = both (w .1) (v .valid) }
 
 pub comparison-read : (correlation : Bool) (field : List ℕ) (c : Comparison) → comparisonField correlation field ≡ accepted c → ComparisonRead correlation field c
 unfolding comparisonField digitOf readingDigit operatorOf require _>>=_ _>>_

@@ -12,22 +12,23 @@ use lib.ListN.{length}
 use Rattle.declare.specs.declared.Reading.the-variants.{Value}
 use Rattle.declare.specs.Lists.{all, any}
 use Rattle.declare.specs.Conditions.{comparisonsOf}
-use Rattle.declare.specs.Rules.{noneTwice, noCondition, validComparison, validCondition}
-use Rattle.declare.proofs.Booleans.{and-left, and-right, both, both₃, and₃, all-append}
+use Rattle.declare.specs.Rules.{isReading, noneTwice, noCondition, validReference, validComparison, validCondition}
+use Rattle.declare.proofs.Booleans.{and-left, and-right, both, both₃, and₂, and₃, all-append}
 use Rattle.number.specs.Number.{dash, none}
-use Rattle.number.specs.Written.{integerText}
+use Rattle.number.specs.Written.{digitsOf, integerText}
+use Rattle.number.proofs.Written.{written-digits}
 use Rattle.line.specs.Fields.{split, joined}
 use Rattle.declare.specs.Answers.{accepted, _>>=_, _>>_, require}
 use Rattle.line.specs.Values.{readingText}
 use Rattle.declare.proofs.Answers.{of-of, through, required}
 use Rattle.line.proofs.Fields.{parts}
-use Rattle.line.proofs.Joined.{lacks, split-joined, lacks-joined, joined-split}
+use Rattle.line.proofs.Joined.{lacks, lacks-append, lacks-digits, split-joined, lacks-joined, joined-split}
 use Rattle.line.proofs.Values.{dash-text, lacks-reading}
 use Rattle.rule_text.specs.Types.{Operator, Equal, NotEqual, Less, AtMost, Greater, AtLeast, Reference, Constant, Activation, Comparison, Condition}
 use Rattle.rule_text.specs.Comparisons.{operatorByte, comparisonField}
 use Rattle.rule_text.specs.Conditions.{comma, tested, comparisonsAfter, conditionOf, comparisonsField, conditionField}
 use Rattle.rule_text.specs.Written.{referenceText, comparisonText, comparisonsText, conditionText, canonicalCondition}
-use Rattle.rule_text.proofs.ComparisonTexts.{comparison-written, comparison-read, comparison-reading}
+use Rattle.rule_text.proofs.ComparisonTexts.{reading-digit, comparison-written, comparison-read, comparison-reading}
 use Rattle.rule_text.proofs.Conditions.{Distinct, at-most-four, distinct-none, distinct-more, comparisons-slots}
 
 -- ---- bytes that do not stand in a condition
@@ -49,17 +50,20 @@ module _ (b : ℕ) (low : b < 45) (mark : eqb 33 b ≡ false) where
   operator-lacks Greater = other 62 (omega arith)
   operator-lacks AtLeast = other 103 (omega arith)
 
+  digits-lack : (n : ℕ) → lacks b (digitsOf n) ≡ true
+  digits-lack n = lacks-digits b (digitsOf n) (omega arith) (written-digits n)
+
   k-lacks : (x : Reference) → lacks b (referenceText x) ≡ true
   unfolding referenceText readingText
   k-lacks (Constant k) = lacks-reading b (Value k) low
   k-lacks (Activation g k) =
-      lacks-more b 64 ((48 + g) ∷ 58 ∷ integerText k) (other 64 (omega arith))
-      (lacks-more b (48 + g) (58 ∷ integerText k) (other (48 + g) (omega arith)) (lacks-more b 58 (integerText k) (other 58 (omega arith)) (lacks-reading b (Value k) low)))
+      lacks-more b 64 (digitsOf g ++ (58 ∷ integerText k)) (other 64 (omega arith))
+      (lacks-append b (digitsOf g) (58 ∷ integerText k) (digits-lack g) (lacks-more b 58 (integerText k) (other 58 (omega arith)) (lacks-reading b (Value k) low)))
 
   comparison-lacks : (c : Comparison) → lacks b (comparisonText c) ≡ true
   unfolding comparisonText
   comparison-lacks c =
-      lacks-more b (48 + c .reading) (operatorByte (c .operator) ∷ referenceText (c .reference)) (other (48 + c .reading) (omega arith))
+      lacks-append b (digitsOf (c .reading)) (operatorByte (c .operator) ∷ referenceText (c .reference)) (digits-lack (c .reading))
       (lacks-more b (operatorByte (c .operator)) (referenceText (c .reference)) (operator-lacks (c .operator)) (k-lacks (c .reference)))
 
   comparisons-lack : (cs : List Comparison) → all (lacks b) (map comparisonText cs) ≡ true
@@ -101,15 +105,16 @@ after-written correlation cs (d ∷ ds) v n =
     ∙ ap accepted (append-assoc cs (d ∷ []) ds))
 
 -- a comparison has more bytes than `-`
-not-dash : (c : Comparison) (cs : List Comparison) → dash (joined comma (map comparisonText (c ∷ cs))) ≡ false
+not-dash : (c : Comparison) (cs : List Comparison) → isReading (c .reading) ≡ true → dash (joined comma (map comparisonText (c ∷ cs))) ≡ false
 unfolding joined comparisonText dash none
-not-dash c cs = and-false (eqb (48 + c .reading) 45)
+not-dash c cs h = rw (reading-digit (c .reading) h) (and-false (eqb (48 + c .reading) 45))
 
 list-written : (correlation : Bool) (cs : List Comparison) → all (validComparison correlation) cs ≡ true → noneTwice cs ≡ true → conditionField correlation (comparisonsText cs) ≡ accepted (conditionOf cs)
-unfolding conditionField comparisonsField comparisonsText _>>=_ dash none noCondition conditionOf
+unfolding conditionField comparisonsField comparisonsText _>>=_ dash none noCondition conditionOf all validComparison
 list-written correlation [] v n = refl
 list-written correlation (c ∷ cs) v n =
-    rw (not-dash c cs, split-joined comma (comparisonText c) (map comparisonText cs) (comparisons-lack comma (omega arith) refl (c ∷ cs)), after-written correlation [] (c ∷ cs) v n)
+    let p : (isReading (c .reading) ≡ true) × (validReference correlation (c .reference) ≡ true) = and₂ (and-left (validComparison correlation c) (all (validComparison correlation) cs) v) in
+    rw (not-dash c cs (p .0), split-joined comma (comparisonText c) (map comparisonText cs) (comparisons-lack comma (omega arith) refl (c ∷ cs)), after-written correlation [] (c ∷ cs) v n)
 
 pub condition-written : (correlation : Bool) (c : Condition) → validCondition correlation c ≡ true → conditionField correlation (conditionText c) ≡ accepted (canonicalCondition c)
 unfolding validCondition conditionText canonicalCondition

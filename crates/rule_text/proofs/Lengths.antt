@@ -23,6 +23,7 @@ use Rattle.rule_text.specs.Types.{Operator, Equal, NotEqual, Less, AtMos
 use Rattle.rule_text.specs.Comparisons.{operatorByte}
 use Rattle.rule_text.specs.Conditions.{comma}
 use Rattle.rule_text.specs.Written.{referenceText, comparisonText, comparisonsText, conditionText, endText, ruleFields, rulesText, ValidRules, WrittenBytes}
+use Rattle.rule_text.proofs.ComparisonTexts.{reading-digit}
 use Rattle.rule_text.proofs.Conditions.{comparisons-few}
 use Rattle.rule_text.proofs.RoundTrips.{limits}
 
@@ -53,7 +54,8 @@ reference-within true (Constant k) h = within-most (omega arith) (reading-within
 reference-within false (Activation g k) h = absurd (false≢true h)
 reference-within true (Activation g k) h =
     let p : (isReading g ≡ true) × (inRange (Exact k) ≡ true) = and₂ h in
-    within-more 64 refl (within-more (48 + g) (digit-byte g (p .0)) (within-more 58 refl (reading-within (Value k) (p .1))))
+    rw (reading-digit g (p .0))
+    (within-more 64 refl (within-more (48 + g) (digit-byte g (p .0)) (within-more 58 refl (reading-within (Value k) (p .1)))))
 
 -- a digit and an operator before it
 abbrev comparisonMost : Bool → ℕ
@@ -63,8 +65,9 @@ comparison-within : (correlation : Bool) (c : Comparison) → validComparison co
 unfolding validComparison comparisonText
 comparison-within correlation c h =
     let p : (isReading (c .reading) ≡ true) × (validReference correlation (c .reference) ≡ true) = and₂ h in
-    within-more (48 + c .reading) (digit-byte (c .reading) (p .0))
-    (within-more (operatorByte (c .operator)) (operator-byte (c .operator)) (reference-within correlation (c .reference) (p .1)))
+    rw (reading-digit (c .reading) (p .0))
+    (within-more (48 + c .reading) (digit-byte (c .reading) (p .0))
+    (within-more (operatorByte (c .operator)) (operator-byte (c .operator)) (reference-within correlation (c .reference) (p .1))))
 
 -- ---- conditions
 

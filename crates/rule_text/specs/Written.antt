@@ -1,14 +1,14 @@
 -- Rules written as a rules text, and what is proved of writing and reading.
 use mathlib.Core.Path.{_≡_}
 use mathlib.Core.Bool.{true}
-use mathlib.Core.List.{List, [], _∷_, map}
+use mathlib.Core.List.{List, [], _∷_, _++_, map}
 use Prim.Native.Nat.{ℕ, _+_, _*_, _≤_}
 use lib.ListN.{length}
 use Rattle.declare.specs.Lists.{all}
 use Rattle.declare.specs.Limits.{mostRules}
 use Rattle.declare.specs.Conditions.{comparisonsOf}
 use Rattle.declare.specs.Rules.{validRule}
-use Rattle.number.specs.Number.{digit0, hyphen}
+use Rattle.number.specs.Number.{hyphen}
 use Rattle.number.specs.Written.{digitsOf, integerText}
 use Rattle.line.specs.Fields.{isByte, joined}
 use Rattle.line.specs.Texts.{All, writtenText}
@@ -20,10 +20,10 @@ use Rattle.rule_text.specs.Rules.{rulesTextOf}
 -- k; or `@`, a digit, `:`, k
 unfoldable pub referenceText : Reference → List ℕ
 referenceText (Constant k) = integerText k
-referenceText (Activation g k) = atSign ∷ (digit0 + g) ∷ colon ∷ integerText k
+referenceText (Activation g k) = atSign ∷ (digitsOf g ++ (colon ∷ integerText k))
 
 unfoldable pub comparisonText : Comparison → List ℕ
-comparisonText c = (digit0 + c .reading) ∷ operatorByte (c .operator) ∷ referenceText (c .reference)
+comparisonText c = digitsOf (c .reading) ++ (operatorByte (c .operator) ∷ referenceText (c .reference))
 
 -- `-` for no comparisons
 unfoldable pub comparisonsText : List Comparison → List ℕ

@@ -1,5 +1,6 @@
 // Comparisons.
 ghost use mathlib.Core.Path.{_≡_};
+ghost use Rattle.declare.specs.declared.Reference.the-variants.{Activation};
 ghost use Rattle.rule_text.specs.Comparisons.{operatorByte};
 ghost use Rattle.rule_text.specs.Written.{referenceText, comparisonText};
 ghost use Rattle.buffer.specs.Puts.{Puts};

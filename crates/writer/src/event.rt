@@ -16,12 +16,16 @@ use line::TAB;
 fn put_event(out: &mut [u8], at: usize, e: Event) -> usize
     ensures { λ r. ⌜ Puts (writtenLine eventFields e) (now (out .entry)) at (now (out .exit)) r ⌝ }
 {
+    let reading1 = e.reading1;
+    let reading2 = e.reading2;
+    let reading3 = e.reading3;
+    let reading4 = e.reading4;
     let at = put_field(out, at, e.time, TAB);
     let at = put_small(out, at, e.activity, TAB);
-    let at = put_reading(out, at, e.reading1, TAB);
-    let at = put_reading(out, at, e.reading2, TAB);
-    let at = put_reading(out, at, e.reading3, TAB);
-    put_reading(out, at, e.reading4, LINE_FEED)
+    let at = put_reading(out, at, reading1, TAB);
+    let at = put_reading(out, at, reading2, TAB);
+    let at = put_reading(out, at, reading3, TAB);
+    put_reading(out, at, reading4, LINE_FEED)
 }
 
 // The lines of the first `count` events, from the buffer's front on.

@@ -61,8 +61,10 @@ fn written_again_cases() -> Vec<Case> {
 
 fn written_cause_cases() -> Vec<Case> {
     let causes = (0..).zip(causes::causes(true)).step_by(9);
-    let causes = causes.map(|(number, (_, run))| written::listed_case(number, run));
-    causes.collect()
+    let causes = causes.map(|(number, (_, run))| written::cause_case(number, run));
+    let allowed = (0..).zip(causes::allowed(true)).step_by(9);
+    let allowed = allowed.map(|(number, (_, run))| written::allowed_case(number, run));
+    causes.chain(allowed).collect()
 }
 
 #[test]

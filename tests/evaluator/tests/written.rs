@@ -226,50 +226,40 @@ fn unused_slots_are_not_written() {
     assert_eq!(cycle_text(&run), CYCLE);
 }
 
-/// A rule of these numbers without conditions, and its line.
-type Line = (u8, u8, u8, u32, Option<u32>, &'static str);
-
 #[test]
 fn the_numbers_of_a_rule_at_their_ends() {
-    let lines: [Line; 8] = [
-        (1, 1, 1, 0, Some(1), "1\t1\t1\t0\t1\t-\t-\n"),
-        (9, 9, 10, 9, Some(10), "9\t9\t10\t9\t10\t-\t-\n"),
-        (10, 10, 9, 10, Some(11), "10\t10\t9\t10\t11\t-\t-\n"),
-        (12, 64, 64, 0, None, "12\t64\t64\t0\t-\t-\t-\n"),
-        (2, 1, 64, 99, Some(100), "2\t1\t64\t99\t100\t-\t-\n"),
+    let most = 4_294_967_295;
+    let lines = [
+        (Rule::new(1, 1, 1, 0, Some(1)), "1\t1\t1\t0\t1\t-\t-\n"),
+        (Rule::new(9, 9, 10, 9, Some(10)), "9\t9\t10\t9\t10\t-\t-\n"),
         (
-            3,
-            64,
-            1,
-            1_000_000_000,
-            Some(2_147_483_648),
+            Rule::new(10, 10, 9, 10, Some(11)),
+            "10\t10\t9\t10\t11\t-\t-\n",
+        ),
+        (Rule::new(12, 64, 64, 0, None), "12\t64\t64\t0\t-\t-\t-\n"),
+        (
+            Rule::new(2, 1, 64, 99, Some(100)),
+            "2\t1\t64\t99\t100\t-\t-\n",
+        ),
+        (
+            Rule::new(3, 64, 1, 1_000_000_000, Some(2_147_483_648)),
             "3\t64\t1\t1000000000\t2147483648\t-\t-\n",
         ),
         (
-            4,
-            5,
-            6,
-            4_294_967_294,
-            Some(4_294_967_295),
+            Rule::new(4, 5, 6, most - 1, Some(most)),
             "4\t5\t6\t4294967294\t4294967295\t-\t-\n",
         ),
         (
-            11,
-            7,
-            8,
-            4_294_967_295,
-            None,
+            Rule::new(11, 7, 8, most, None),
             "11\t7\t8\t4294967295\t-\t-\t-\n",
         ),
     ];
-    let mut all = (Vec::new(), String::new());
-    for (code, activation, target, a, b, line) in lines {
-        let rule = Rule::new(code, activation, target, a, b);
-        assert_eq!(rules_text(&TableRecord::of(&[rule.clone()])), line);
-        all.0.push(rule);
-        all.1 += line;
+    let (mut rules, mut text) = (Vec::new(), String::new());
+    for (rule, line) in lines {
+        rules.push(rule);
+        text += line;
+        assert_eq!(rules_text(&TableRecord::of(&rules)), text);
     }
-    assert_eq!(rules_text(&TableRecord::of(&all.0)), all.1);
 }
 
 /// A rule with these conditions, written out.

@@ -1,7 +1,7 @@
 //! Tables and runs written into buffers of sizes beside the length of their text,
 //! and read back; accepted texts read and written again.
 
-use crate::cases::records::{stale_run, FILLED};
+use crate::cases::records::stale_run;
 use crate::cases::running::refused_event;
 use crate::cases::texts::{compare_cycle_text, compare_rules_text};
 use crate::command::LARGEST_BUFFER;
@@ -9,8 +9,9 @@ use crate::script::{new_table, table_of, Case, Session};
 use evaluator::damage::{damaged_cycle_text, damaged_rules_text};
 use evaluator::fabricate::{change, fabricated, fill_unused, random_record, spread_numbers, Part};
 use evaluator::random::{random_cycle, random_rules, Random};
+use evaluator::slots::EVENT_SLOTS;
 use evaluator::{read_cycle, read_rules, start, write_cycle_of, write_rules_of};
-use evaluator::{Record, Refusal, TableRecord};
+use evaluator::{Record, Refusal, Standing, TableRecord};
 
 pub const KIND: &str = "written";
 pub const GROWN: &str = "written-grown";
@@ -24,6 +25,10 @@ const UNCHANGED_EVERY: u64 = 4;
 /// Sizes for a record that has no text; the last two hold every rules text and
 /// every short cycle text.
 const OTHER_SIZES: [u64; 4] = [0, 1, 200, 3000];
+
+/// One in so many of the cells in rows that no rule has is filled; each takes a
+/// command.
+const CELL_EVERY: usize = 61;
 
 /// The notebook of more events takes the evaluator too long.
 const NOTEBOOK_EVENTS: usize = 40;
@@ -43,8 +48,8 @@ pub fn case(seed: u64) -> Case {
     session.case
 }
 
-/// Numbers of every length, unused slots filled, and fields of a rule or the
-/// count changed, each in a part of the tables.
+/// A table; in a part of them numbers have any count of digits, unused slots are
+/// filled, or fields of a rule or the count are changed.
 fn random_table(random: &mut Random) -> TableRecord {
     let count = random.pick(&[0, 1, 1, 2, 2, 3, 5, 15, 16]);
     let table = table_of(&random_rules(random, count));
@@ -62,31 +67,42 @@ fn random_table(random: &mut Random) -> TableRecord {
     run.table
 }
 
-/// The same for runs, closed or not. Their standings follow from the events, or
-/// have nothing to do with them.
+/// The same for runs, closed or not.
 fn random_run(random: &mut Random) -> Record {
-    let mut run = match random.one_in(3) {
-        true => random_record(random, 7),
-        false => {
-            let rules = random.pick(&[0, 1, 1, 2, 3]);
-            let length = match random.one_in(40) {
-                true => random.pick(&[100, 255, 256]),
-                false => random.pick(&[0, 1, 2, 3, 5, 8, 12]),
-            };
-            stale_run(random, rules, length)
-        }
-    };
+    let mut run = valid_run(random);
     if random.one_in(2) {
         spread_numbers(random, &mut run);
     }
     if random.one_in(2) {
         run = run.close().0;
     }
-    if random.one_in(FILLED) {
-        fill_unused(random, &mut run);
+    if random.one_in(4) {
+        fill_some(random, &mut run);
     }
     let changes = random.pick(&[0, 0, 0, 1, 1, 2]);
     fabricated(random, run, changes)
+}
+
+/// A run whose standings follow from its events, or have nothing to do with them.
+fn valid_run(random: &mut Random) -> Record {
+    if random.one_in(3) {
+        return random_record(random, 7);
+    }
+    let rules = random.pick(&[0, 1, 1, 2, 3]);
+    let length = match random.one_in(40) {
+        true => random.pick(&[100, 255, 256]),
+        false => random.pick(&[0, 1, 2, 3, 5, 8, 12]),
+    };
+    stale_run(random, rules, length)
+}
+
+/// Fills unused slots, but not every cell.
+fn fill_some(random: &mut Random, run: &mut Record) {
+    fill_unused(random, run);
+    let unused = run.table.count as usize * EVENT_SLOTS;
+    let cells = run.standings[unused..].iter_mut().enumerate();
+    let left_out = cells.filter(|(at, _)| at % CELL_EVERY > 0);
+    left_out.for_each(|(_, cell)| *cell = Standing::Idle);
 }
 
 /// The text of the rules, if the table is not refused with 11.
@@ -166,11 +182,23 @@ fn read_back(case: &mut Case, table: &TableRecord, run: &Record) {
     }
 }
 
-/// A record that is written out: the run, and its table.
-pub fn listed_case(number: u64, run: Record) -> Case {
+/// A record with one cause of 11: the run is refused, and its table if the cause
+/// is there.
+pub fn cause_case(number: u64, run: Record) -> Case {
+    assert_eq!(cycle_text(&run), None);
+    let mut session = Session::on(LISTED, number, run);
+    write_both(&mut session);
+    if number.is_multiple_of(UNCHANGED_EVERY) {
+        compare_unchanged(&mut session);
+    }
+    session.case
+}
+
+/// A record beside the limits, not outside them.
+pub fn allowed_case(number: u64, run: Record) -> Case {
+    assert!(cycle_text(&run).is_some());
     let mut session = Session::on(LISTED, number, run.clone());
     write_both(&mut session);
-    session.compare_run();
     read_back(&mut session.case, &run.table, &run);
     session.case
 }
@@ -196,12 +224,13 @@ pub fn grown_case(seed: u64) -> Case {
     let grown = cycle_text(&session.run).expect("a valid run");
     session.close().expect("a run that is not closed");
     write_run(&mut session);
-    session.compare_run();
+    if seed.is_multiple_of(UNCHANGED_EVERY) {
+        compare_unchanged(&mut session);
+    }
     let rules = rules_text(&session.table).expect("a valid table");
     let answer = session.notebook(rules, grown.clone());
     answer.expect("texts of valid rules and taken events");
     write_run(&mut session);
-    session.compare_notebook_run();
     assert_eq!(cycle_text(&session.run), Some(grown));
     session.case
 }

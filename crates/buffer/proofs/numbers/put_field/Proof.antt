@@ -3,24 +3,16 @@ use Rattle.buffer.proofs.Puts.{puts-then}
 use borrow.Author.Needs.{needs}
 use Rattle.buffer.proofs.numbers.put_field.Statement.{statement}
 use Rattle.buffer.proofs.numbers.put_field.Tie as tie
-use Rattle.buffer.proofs.numbers.put_field.Reads as reads
-use Rattle.buffer.proofs.numbers.put_field.Lts as lts
-use Rattle.buffer.proofs.numbers.put_number.Reads as put-number-reads
-use Rattle.buffer.proofs.put.put_byte.Reads as put-byte-reads
 
--- src/numbers.rt:44:9
 put-number-requires : tie.Need-put-number-requires
 put-number-requires c κs = search needs
 
--- src/numbers.rt:45:5
 put-byte-requires : tie.Need-put-byte-requires
 put-byte-requires c κs = search needs
 
--- src/numbers.rt:41:1
 same-length : tie.Need-same-length
 same-length c = search needs
 
--- src/numbers.rt:41:1
 returns : tie.Need-returns
 returns c =
     let last = c .before .before in

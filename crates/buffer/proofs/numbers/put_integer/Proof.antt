@@ -15,11 +15,6 @@ use Rattle.buffer.proofs.Puts.{puts-then, puts-as}
 use borrow.Author.Needs.{needs}
 use Rattle.buffer.proofs.numbers.put_integer.Statement.{statement}
 use Rattle.buffer.proofs.numbers.put_integer.Tie as tie
-use Rattle.buffer.proofs.numbers.put_integer.Reads as reads
-use Rattle.buffer.proofs.numbers.put_integer.Lts as lts
-use Rattle.buffer.proofs.numbers.put_number.Reads as put-number-reads
-use Rattle.buffer.proofs.put.put_byte.Reads as put-byte-reads
-use Rattle.declare.proofs.numbers.magnitude.Reads as magnitude-reads
 
 below : (z : ℤ) (m : ℕ) → ltZ z (pos 0) ≡ true → m ≡ natAbs z → hyphen ∷ digitsOf m ≡ integerText z
 unfolding integerText
@@ -31,23 +26,18 @@ unfolding integerText
 not-below (pos n) m h e = ap digitsOf e
 not-below (negsuc n) m h e = absurd (true≢false h)
 
--- src/numbers.rt:32:9
 magnitude-requires : tie.Need-magnitude-requires
 magnitude-requires c κs = search needs
 
--- src/numbers.rt:34:13
 put-byte-requires : tie.Need-put-byte-requires
 put-byte-requires c κs = search needs
 
--- src/numbers.rt:35:9
 put-number-requires : tie.Need-put-number-requires
 put-number-requires c κs = search needs
 
--- src/numbers.rt:35:9
 same-length : tie.Need-same-length
 same-length c = search needs
 
--- src/numbers.rt:35:9
 returns : tie.Need-returns
 returns c =
     let last = c .before .before in
@@ -57,15 +47,12 @@ returns c =
     let same = toZ-ofZ {w = w32} {z = start .args .z} (start .fits .z) in
     puts-as (below _ _ (test .if1 .taken) (test .before .magnitude .ensures) ∙ ap integerText same) (puts-then (dash .put-byte .ensures) (last .put-number .ensures))
 
--- src/numbers.rt:37:5
 put-number-requires-2 : tie.Need-put-number-requires-2
 put-number-requires-2 c κs = search needs
 
--- src/numbers.rt:29:1
 same-length-2 : tie.Need-same-length-2
 same-length-2 c = search needs
 
--- src/numbers.rt:29:1
 returns-2 : tie.Need-returns-2
 returns-2 c =
     let last = c .before .before in

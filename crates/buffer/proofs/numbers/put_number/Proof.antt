@@ -16,10 +16,6 @@ use Rattle.buffer.proofs.Puts.{puts-as, puts-length}
 use borrow.Author.Needs.{needs}
 use Rattle.buffer.proofs.numbers.put_number.Statement.{statement}
 use Rattle.buffer.proofs.numbers.put_number.Tie as tie
-use Rattle.buffer.proofs.numbers.put_number.Reads as reads
-use Rattle.buffer.proofs.numbers.put_number.Lts as lts
-use Rattle.buffer.proofs.put.put_byte.Reads as put-byte-reads
-use Rattle.buffer.proofs.put.put_bytes.Reads as put-bytes-reads
 
 abbrev Inv-loop : tie.InvT-loop
 Inv-loop out at n digits₀ left₀ first₀ digits left first =
@@ -57,55 +53,43 @@ last l i left n s h m e =
     ∙ before l i (48 + left) (omega arith)
     ∙ sym (e ∙ rw (digits-one left m))
 
--- src/numbers.rt:14:35
 add-put-byte : tie.Need-add-put-byte Inv-loop μ-loop
 add-put-byte c = search needs
 
--- src/numbers.rt:14:34
 cast-put-byte : tie.Need-cast-put-byte Inv-loop μ-loop
 cast-put-byte c = search needs
 
--- src/numbers.rt:14:9
 put-byte-requires : tie.Need-put-byte-requires Inv-loop μ-loop
 put-byte-requires c κs = search needs
 
--- src/numbers.rt:14:9
 same-length : tie.Need-same-length Inv-loop μ-loop
 same-length c = search needs
 
--- src/numbers.rt:14:9
 returns : tie.Need-returns Inv-loop μ-loop
 returns c = rw (digits-one (c .before .before .before .before .before .before .args .n) (omega arith)) (c .before .before .put-byte .ensures)
 
--- src/numbers.rt:19:5
 loop-holds : tie.Need-loop-holds Inv-loop μ-loop
 loop-holds c =
     let n = c .before .before .args .n in
     (refl, omega arith, digits-length 9 n (omega arith), sym (append-nil (digitsOf n)))
 
--- src/numbers.rt:20:26
 add-digits : tie.Need-add-digits Inv-loop μ-loop
 add-digits c = search needs
 
--- src/numbers.rt:20:25
 cast-digits : tie.Need-cast-digits Inv-loop μ-loop
 cast-digits c = search needs
 
--- src/numbers.rt:20:9
 array-write-digits : tie.Need-array-write-digits Inv-loop μ-loop
 array-write-digits c = search needs
 
--- src/numbers.rt:22:9
 sub-first : tie.Need-sub-first Inv-loop μ-loop
 sub-first c =
     let l = c .before .loop in
     omega (arith, shorter (l .left) (c .loop-test .taken), some (l .left / 10))
 
--- src/numbers.rt:19:5
 loop-less : tie.Need-loop-less Inv-loop μ-loop
 loop-less c = search needs
 
--- src/numbers.rt:19:5
 loop-again : tie.Need-loop-again Inv-loop μ-loop
 loop-again c =
     let l = c .before .loop in
@@ -118,42 +102,33 @@ loop-again c =
       rw e (again (l .digits) (l .first) (l .left) _ (omega arith) m (l .inv .3)),
     )
 
--- src/numbers.rt:24:22
 add-digits-2 : tie.Need-add-digits-2 Inv-loop μ-loop
 add-digits-2 c = search needs
 
--- src/numbers.rt:24:21
 cast-digits-2 : tie.Need-cast-digits-2 Inv-loop μ-loop
 cast-digits-2 c = search needs
 
--- src/numbers.rt:24:5
 array-write-digits-2 : tie.Need-array-write-digits-2 Inv-loop μ-loop
 array-write-digits-2 c = search needs
 
--- src/numbers.rt:25:24
 sub-put-bytes : tie.Need-sub-put-bytes Inv-loop μ-loop
 sub-put-bytes c = search needs
 
--- src/numbers.rt:25:24
 part-put-bytes-start : tie.Need-part-put-bytes-start Inv-loop μ-loop
 part-put-bytes-start c = search needs
 
--- src/numbers.rt:25:24
 part-put-bytes-end : tie.Need-part-put-bytes-end Inv-loop μ-loop
 part-put-bytes-end c =
     let l = c .before .before .before .loop in
     let e : length (set (l .digits) (l .first) (48 + l .left)) ≡ 10 = length-set (l .digits) (l .first) (48 + l .left) ∙ l .inv .0 in
     omega arith
 
--- src/numbers.rt:25:5
 put-bytes-requires : tie.Need-put-bytes-requires Inv-loop μ-loop
 put-bytes-requires c κs = search needs
 
--- src/numbers.rt:10:1
 same-length-2 : tie.Need-same-length-2 Inv-loop μ-loop
 same-length-2 c = search needs
 
--- src/numbers.rt:10:1
 returns-2 : tie.Need-returns-2 Inv-loop μ-loop
 returns-2 c =
     let l = c .before .before .before .before .before .before .before .loop in

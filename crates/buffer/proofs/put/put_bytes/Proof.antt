@@ -14,9 +14,6 @@ use Rattle.buffer.proofs.Puts.{puts-none, puts-one, puts-then, puts-as,
 use borrow.Author.Needs.{needs}
 use Rattle.buffer.proofs.put.put_bytes.Statement.{statement}
 use Rattle.buffer.proofs.put.put_bytes.Tie as tie
-use Rattle.buffer.proofs.put.put_bytes.Reads as reads
-use Rattle.buffer.proofs.put.put_bytes.Lts as lts
-use Rattle.declare.proofs.numbers.min.Reads as min-reads
 
 abbrev Inv-loop : tie.InvT-loop
 Inv-loop out₀ at bytes n i₀ out i = (i ≤ n) × Puts (take i bytes) out₀ at out (at + i)
@@ -41,49 +38,39 @@ rest bytes l m at n e h p = go (ltb n (length bytes)) refl
         let full : length m ≤ at + n = omega (arith, ltb-true n (length bytes) s) in
         puts-as (take-append-drop n bytes) (puts-then p (puts-full (drop n bytes) m (at + n) full))
 
--- src/put.rt:20:9
 returns : tie.Need-returns Inv-loop μ-loop
 returns c = puts-full _ _ _ (c .if1 .taken)
 
--- src/put.rt:22:30
 sub-min : tie.Need-sub-min Inv-loop μ-loop
 sub-min c = search needs
 
--- src/put.rt:22:9
 min-requires : tie.Need-min-requires Inv-loop μ-loop
 min-requires c κs = search needs
 
--- src/put.rt:23:5
 loop-holds : tie.Need-loop-holds Inv-loop μ-loop
 loop-holds c =
     let a = c .before .before .before .before .args in
     let e : a .at + 0 ≡ a .at = omega arith in
     (omega arith, rw e (puts-none (a .out .now) (a .at)))
 
--- src/put.rt:24:23
 shared-slice-read-out : tie.Need-shared-slice-read-out Inv-loop μ-loop
 shared-slice-read-out c = search needs
 
--- src/put.rt:24:13
 add-out : tie.Need-add-out Inv-loop μ-loop
 add-out c = search needs
 
--- src/put.rt:24:9
 slice-write-out : tie.Need-slice-write-out Inv-loop μ-loop
 slice-write-out c =
     let k : length (c .before .before .loop .out) ≡ length (c .before .before .before .before .before .before .before .args .out .now) =
-        puts-length (c .before .before .loop .inv .1) in
+    puts-length (c .before .before .loop .inv .1) in
     omega arith
 
--- src/put.rt:23:9
 add-i : tie.Need-add-i Inv-loop μ-loop
 add-i c = search needs
 
--- src/put.rt:23:5
 loop-less : tie.Need-loop-less Inv-loop μ-loop
 loop-less c = search needs
 
--- src/put.rt:23:5
 loop-again : tie.Need-loop-again Inv-loop μ-loop
 loop-again c =
     let a = c .before .before .before .before .before .before .before .args in
@@ -92,15 +79,12 @@ loop-again c =
     let fits : a .at + l .i < length (l .out) = omega arith in
     (omega arith, more (a .bytes .now) (a .out .now) (l .out) (a .at) (l .i) (omega arith) fits (l .inv .1))
 
--- src/put.rt:26:5
 add-result : tie.Need-add-result Inv-loop μ-loop
 add-result c = search needs
 
--- src/put.rt:16:1
 same-length : tie.Need-same-length Inv-loop μ-loop
 same-length c = puts-length (c .before .loop .inv .1)
 
--- src/put.rt:16:1
 returns-2 : tie.Need-returns-2 Inv-loop μ-loop
 returns-2 c =
     let a = c .before .before .before .before .before .before .args in
