@@ -111,3 +111,9 @@ pub puts-taken : {xs l m : List ℕ} {p : ℕ} → length xs ≤ length l → Pu
 puts-taken {xs} {l} h a =
     let e = puts-front h a in
     rw (e .0, e .1) (take-append-seam xs (drop (length xs) l))
+
+pub puts-within : {xs l m : List ℕ} {p : ℕ} → length xs ≤ length l → Puts xs l 0 m p → p ≤ length m
+puts-within h a =
+    let s = puts-length a in
+    let e = puts-front h a .1 in
+    omega arith

@@ -38,7 +38,7 @@ pub fn put_integer(out: &mut [u8], at: usize, z: i32) -> usize
 }
 
 // A number and the byte that ends its field.
-pub fn put_field(out: &mut [u8], at: usize, n: u32, end: u8) -> usize
+pub fn put_number_field(out: &mut [u8], at: usize, n: u32, end: u8) -> usize
     ensures { λ r. ⌜ Puts (digitsOf n ++ (end ∷ [])) (now (out .entry)) at (now (out .exit)) r ⌝ }
 {
     let at = put_number(out, at, n);

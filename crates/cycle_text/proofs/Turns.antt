@@ -1,6 +1,6 @@
 -- The reader's turns: the checks of an event below those above it, and the answers that the reader
 -- returns.
-use mathlib.Core.Path.{_≡_, refl, sym}
+use mathlib.Core.Path.{_≡_, sym}
 use mathlib.Core.List.{List, [], _∷_, _++_}
 use Prim.Native.Nat.{ℕ, _≤_, _<_}
 use borrow.Author.Tests.{le-leb, lt-leb, lt-ltb, le-ltb}
@@ -9,13 +9,12 @@ use Rattle.declare.specs.Limits.{mostEvents}
 use Rattle.declare.specs.Events.{lastFrom, lastTime, emptySlot}
 use Rattle.declare.specs.Refusals.{numberOf}
 use Rattle.declare.specs.Answers.{accepted, refused, _>>_, require}
-use Rattle.declare.specs.Slots.{eventSlots}
 use Rattle.declare.proofs.Extension.{last-parts}
 use Rattle.declare.proofs.Filled.{Filled, filled-count}
-use Rattle.line.specs.Texts.{Records, All, Stop, recordsRead}
+use Rattle.line.specs.Texts.{All, Stop, recordsRead}
 use Rattle.cycle_text.specs.Types.{Event, Refusal, Accepted, CycleRead}
-use Rattle.cycle_text.specs.Cycle.{inOrder}
-use Rattle.cycle_text.specs.Reads.{recordsOf, eventsIn, refusedRead}
+use Rattle.cycle_text.specs.Cycle.{inOrder, cycleTextOf}
+use Rattle.cycle_text.specs.Reads.{recordsOf, eventsIn, refusedRead, ReadsCycle}
 
 module _ (above : List Event) (e : Event) where
   pub falls : e .time < lastTime above → inOrder above e ≡ refused 7
@@ -35,12 +34,13 @@ module _ (above : List Event) (e : Event) where
   unfolding lastTime lastFrom
   last-taken = last-parts 0 above (e ∷ [])
 
--- ---- what is returned, for what the text x gives
+-- ---- what is returned
 
-pub answer-refused : (x : Records Event) (r : CycleRead) (cause : Refusal) (line : ℕ) → r ≡ refusedRead cause line → x ≡ Stop (numberOf cause) line → (recordsOf r ≡ x) × ((r .count ≡ length (eventsIn x)) × (r .events ≡ eventSlots (eventsIn x)))
+pub answer-refused : (text : List ℕ) (r : CycleRead) (cause : Refusal) (line : ℕ) → r ≡ refusedRead cause line → cycleTextOf text ≡ Stop (numberOf cause) line → ReadsCycle text r
 unfolding recordsOf recordsRead eventsIn refusedRead
-answer-refused x r cause line p q = rw (p, q) (refl, (refl, refl))
+answer-refused text r cause line p q = record { records = rw (p, q); count = rw (p, q); events = rw (p, q) }
 
-pub answer-accepted : (x : Records Event) (count : ℕ) (events : List Event) → Filled mostEvents emptySlot count events → x ≡ All (take count events) → (recordsOf (record { outcome = Accepted; count = count; events = events }) ≡ x) × ((count ≡ length (eventsIn x)) × (events ≡ eventSlots (eventsIn x)))
+pub answer-accepted : (text : List ℕ) (count : ℕ) (events : List Event) → Filled mostEvents emptySlot count events → cycleTextOf text ≡ All (take count events) → ReadsCycle text (record { outcome = Accepted; count = count; events = events })
 unfolding recordsOf recordsRead eventsIn
-answer-accepted x count events h q = rw q (refl, (sym (filled-count mostEvents emptySlot count events h), h .same))
+answer-accepted text count events h q =
+    record { records = sym q; count = rw q (sym (filled-count mostEvents emptySlot count events h)); events = rw q (h .same) }

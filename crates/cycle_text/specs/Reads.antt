@@ -1,13 +1,15 @@
--- What the reader's answers say, by document 01's numbers; and what stands beside them.
+-- What the reader's answers say, by document 01's numbers; and what it promises of a text.
+use mathlib.Core.Path.{_≡_}
 use mathlib.Core.List.{List, []}
 use Prim.Native.Nat.{ℕ}
-use lib.ListN.{take, getD}
+use lib.ListN.{length, take, getD}
 use Rattle.declare.specs.Slots.{eventSlots}
 use Rattle.declare.specs.Refusals.{numberOf}
 use Rattle.declare.specs.Answers.{Answer, accepted, refused, _>>=_}
 use Rattle.line.specs.Values.{readingField}
 use Rattle.line.specs.Texts.{Records, All, Stop, recordsRead}
 use Rattle.cycle_text.specs.Types.{Event, Refusal, Refused, EventAnswer, Found, NoEvent, CycleRead}
+use Rattle.cycle_text.specs.Cycle.{cycleTextOf}
 
 unfoldable pub eventRead : EventAnswer → Answer Event
 eventRead (Found e) = accepted e
@@ -29,6 +31,12 @@ recordsOf r = recordsRead (r .outcome) (take (r .count) (r .events))
 unfoldable pub eventsIn : Records Event → List Event
 eventsIn (All es) = es
 eventsIn (Stop n line) = []
+
+-- what read_cycle promises of a text; beside a refusal stand no events
+pub record ReadsCycle (text : List ℕ) (r : CycleRead) : Type 0 where
+  pub records : recordsOf r ≡ cycleTextOf text
+  pub count : r .count ≡ length (eventsIn (cycleTextOf text))
+  pub events : r .events ≡ eventSlots (eventsIn (cycleTextOf text))
 
 -- a refusal: no events, no slot filled
 unfoldable pub refusedRead : Refusal → ℕ → CycleRead

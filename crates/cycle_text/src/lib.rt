@@ -1,12 +1,10 @@
 // Cycle texts: the events of a whole text, or the first refusal with its line.
 ghost use mathlib.Core.Path.{_≡_};
 ghost use Prim.Native.Nat.{_+_};
-ghost use lib.ListN.{length};
 ghost use Rattle.line.specs.Fields.{LF, indexOf, fieldsFrom};
 ghost use Rattle.line.specs.Texts.{lineOf};
-ghost use Rattle.cycle_text.specs.Cycle.{eventOf, cycleTextOf};
-ghost use Rattle.declare.specs.Slots.{eventSlots};
-ghost use Rattle.cycle_text.specs.Reads.{eventRead, eventWith, recordsOf, eventsIn, refusedRead};
+ghost use Rattle.cycle_text.specs.Cycle.{eventOf};
+ghost use Rattle.cycle_text.specs.Reads.{eventRead, eventWith, refusedRead, ReadsCycle};
 use declare::EVENTS;
 use declare::Event;
 use declare::LAST_ACTIVITY;
@@ -137,9 +135,7 @@ fn refused(cause: Refusal, line: usize) -> CycleRead
 
 // The events of a cycle text.
 pub fn read_cycle(text: &[u8]) -> CycleRead
-    ensures { λ r. ⌜ recordsOf r ≡ cycleTextOf (now (text .entry)) ⌝ }
-    ensures { λ r. ⌜ r .count ≡ length (eventsIn (cycleTextOf (now (text .entry)))) ⌝ }
-    ensures { λ r. ⌜ r .events ≡ eventSlots (eventsIn (cycleTextOf (now (text .entry)))) ⌝ }
+    ensures { λ r. ⌜ ReadsCycle (now (text .entry)) r ⌝ }
 {
     let slot = empty_slot();
     let mut events = [slot; EVENTS];

@@ -2,27 +2,28 @@
 -- each line of a text (Lines), and a reader goes from line to line (Texts).
 use mathlib.Core.Path.{_≡_, refl, sym, ap, _∙_}
 use mathlib.Core.Logic.{_↔_}
-use mathlib.Core.Bool.{not, _&&_}
+use mathlib.Core.Bool.{Bool, not, _&&_}
 use mathlib.Core.List.{List, [], _∷_}
 use Prim.Native.Nat.{ℕ}
 use native.Mathlib.Omega.{arith}
 use lib.Dec.{leb, ltb}
+use lib.ListN.{length}
 use Rattle.declare.specs.declared.Event.{Event}
 use Rattle.declare.specs.declared.Rule.{Rule}
 use Rattle.declare.specs.declared.Table.{Table}
-use Rattle.declare.specs.declared.Refusal.the-variants.{OutOfRange, TimeFalls, TooMany, WrongPhase, NotFound, InvalidRecord, TallyOverflow}
+use Rattle.declare.specs.declared.Refusal.the-variants.{OutOfRange, TimeFalls, TooMany, WrongPhase, NotFound, InvalidRecord, TallyOverflow, BufferTooShort}
 use Rattle.declare.specs.Lists.{any}
 use Rattle.declare.specs.Limits.{mostEvents}
 use Rattle.declare.specs.Events.{wellFormed}
-use Rattle.declare.specs.Rules.{validTable}
+use Rattle.declare.specs.Rules.{rulesOf, validTable}
 use Rattle.declare.specs.Refusals.{numberOf}
-use Rattle.declare.specs.Answers.{Answer, accepted, _>>=_, afterCall}
+use Rattle.declare.specs.Answers.{Answer, accepted, refused, _>>=_, afterCall}
 use Rattle.declare.specs.Steps.{admits}
 use Rattle.declare.proofs.Lists.{leb-not, ltb-not}
 use Rattle.declare.proofs.Answers.{of-of, required, after-refused}
 use Rattle.standings.specs.declared.totals.Totals.{Totals}
 use Rattle.run.specs.declared.Run.{Run}
-use Rattle.run.specs.Records.{horizonOf, totalsIn, validRun}
+use Rattle.run.specs.Records.{eventsOf, horizonOf, totalsIn, validRun}
 use Rattle.run.specs.Start.{startOf}
 use Rattle.run.specs.Take.{takeOf}
 use Rattle.run.specs.Close.{closeOf}
@@ -33,7 +34,12 @@ use Rattle.tally.specs.declared.Outcome.{Outcome}
 use Rattle.tally.specs.Tally.{hasRoomFor, countsOf, withTotals, withCounted, absorbOf, tallyAnswer, Counts, Absorbs}
 use Rattle.line.specs.Texts.{Records, All, Stop}
 use Rattle.cycle_text.specs.Cycle.{eventAfter, cycleTextOf}
+use Rattle.cycle_text.specs.Written.{eventsText}
 use Rattle.rule_text.specs.Rules.{ruleAfter, rulesTextOf}
+use Rattle.rule_text.specs.Written.{rulesText}
+use Rattle.buffer.specs.declared.WriteAnswer.{WriteAnswer}
+use Rattle.buffer.specs.Writes.{writeOf, bufferAfter, writeAnswer, Writes}
+use Rattle.writer.specs.Writer.{writeRulesOf, writeCycleOf}
 use Rattle.line.proofs.Texts.{stop-all}
 use Rattle.notebook.specs.declared.Text.{Text}
 use Rattle.notebook.specs.declared.Text.the-variants.{Rules, Cycle}
@@ -41,7 +47,7 @@ use Rattle.notebook.specs.Notebook.{readAs, notRead, notebookOf, finishedOf, re
 use Rattle.demands.specs.Causes.{Cause, cause}
 use Rattle.demands.specs.LineCauses.{eventCauses, ruleCauses}
 use Rattle.demands.specs.Texts.{Reads}
-use Rattle.demands.specs.Demand1.{Refuses, startCauses, takeCauses, closeCauses, standingCauses, totalsCauses, absorbCauses, ReadsBoth, Demand1}
+use Rattle.demands.specs.Demand1.{Refuses, startCauses, takeCauses, closeCauses, standingCauses, totalsCauses, absorbCauses, writeCauses, ReadsBoth, Demand1}
 use Rattle.demands.proofs.Chains.{Has, has-none, has-one, has-unless, has-only, has-then, has-after, refuses-first, accepts-none}
 use Rattle.demands.proofs.Texts.{reads}
 use Rattle.demands.proofs.Lines.{has-event, has-rule, eventNumbers, event-numbered, ruleNumbers, rule-numbered}
@@ -106,6 +112,19 @@ unfolding absorbOf withCounted
 absorb-counted r rule c before next o p q =
     let e : (countsOf r rule >>= withTotals before) ≡ withCounted before c = ap (λ (x : Answer Totals). x >>= withTotals before) (sym (p .answers)) in
     (q .answers ∙ sym e, q .leaves ∙ ap (afterCall before) (sym e))
+
+-- ---- the lent buffers
+
+has-write : (valid : Bool) (text buffer : List ℕ) → Has (writeOf valid text buffer) (writeCauses valid text buffer)
+unfolding writeOf writeCauses numberOf
+has-write valid text buffer =
+    rw (leb-not (length text) (length buffer))
+    (has-one valid InvalidRecord 11 _ _ refl (has-unless (ltb (length buffer) (length text)) BufferTooShort 15 _ [] refl (has-none _)))
+
+buffer-kept : (valid : Bool) (text before after : List ℕ) (answer : WriteAnswer) (n : ℕ) → Writes valid text before after answer → writeAnswer answer ≡ refused n → after ≡ before
+unfolding bufferAfter
+buffer-kept valid text before after answer n w e =
+    w .leaves ∙ ap (bufferAfter text before) (sym (w .answers) ∙ e)
 
 -- ---- the texts
 
@@ -175,9 +194,12 @@ demand1 =
       totals = λ r rule. refuses (totalsOf r rule) (totalsCauses r rule) (has-totals r rule);
       absorb = λ r rule t. refuses (absorbOf r rule t) (absorbCauses r rule t) (has-absorb r rule t);
       absorbs = absorb-counted;
+      write-rules = λ t buffer. refuses (writeRulesOf t buffer) (writeCauses (validTable t) (rulesText (rulesOf t)) buffer) (has-write (validTable t) (rulesText (rulesOf t)) buffer);
+      write-cycle = λ r buffer. refuses (writeCycleOf r buffer) (writeCauses (validRun r) (eventsText (eventsOf r)) buffer) (has-write (validRun r) (eventsText (eventsOf r)) buffer);
       take-keeps = λ r e n p. after-refused r (takeOf r e) n p;
       close-keeps = λ r n p. after-refused r (closeOf r) n p;
       tally-keeps = λ r rule t n p. after-refused t (absorbOf r rule t) n p;
+      buffer-keeps = buffer-kept;
       rules-text = rules-reads;
       cycle-text = cycle-reads;
       notebook = reads-both;

@@ -4,21 +4,18 @@ use mathlib.Core.Bool.{true}
 use mathlib.Core.List.{List, map}
 use Prim.Native.Nat.{ℕ, _≤_}
 use native.Mathlib.Omega.{arith}
-use lib.Dec.{leb}
 use lib.ListN.{length}
 use Rattle.declare.specs.declared.Event.{Event}
 use Rattle.declare.specs.declared.Rule.{Rule}
 use Rattle.declare.specs.declared.Table.{Table}
-use Rattle.declare.specs.Lists.{all}
 use Rattle.declare.specs.Verdicts.{verdict}
-use Rattle.declare.proofs.Booleans.{and-right}
 use Rattle.line.specs.Texts.{All}
 use Rattle.rule_text.specs.Rules.{rulesTextOf}
-use Rattle.declare.specs.Rules.{validRule, ruleAt, rulesOf, validTable}
+use Rattle.declare.specs.Rules.{ruleAt, rulesOf, validTable}
 use Rattle.declare.specs.Steps.{Cycle, taken}
 use Rattle.declare.specs.Limits.{mostRules}
 use Rattle.declare.proofs.Steps.{cycle-of-taken, taken-cycle}
-use Rattle.declare.proofs.Tables.{rules-within, rule-valid, rule-count, table-slots, table-valid}
+use Rattle.declare.proofs.Tables.{rules-within, rule-valid, table-slots, table-valid}
 use Rattle.standings.proofs.Same.{same-cells}
 use Rattle.run.specs.declared.Run.{Run}
 use Rattle.run.specs.Records.{validRun}
@@ -29,8 +26,8 @@ use Rattle.run.proofs.Takes.{takes}
 use Rattle.run.proofs.Grown.{finished-is-grown}
 use Rattle.cycle_text.specs.Written.{eventsText}
 use Rattle.cycle_text.proofs.RoundTrips.{round-trips as cycle-trips}
-use Rattle.rule_text.specs.Written.{ValidRules, rulesText, canonical}
-use Rattle.rule_text.proofs.RoundTrips.{round-trips as rules-trips}
+use Rattle.rule_text.specs.Written.{ValidRules, rulesText, canonical, rewritten}
+use Rattle.rule_text.proofs.RoundTrips.{valid-rules, round-trips as rules-trips}
 use Rattle.cycle_text.proofs.Lengths.{written-bytes as cycle-bytes}
 use Rattle.rule_text.proofs.Lengths.{written-bytes as rules-bytes}
 use Rattle.rule_text.proofs.Canonical.{canonical-verdict}
@@ -38,7 +35,7 @@ use Rattle.notebook.specs.Notebook.{readAs, notebookOf}
 use Rattle.notebook.proofs.Tables.{same-count, canonical-rule}
 use Rattle.notebook.proofs.Replies.{accepted-texts}
 use Rattle.demands.proofs.Early.{early-at}
-use Rattle.demands.specs.Demand3.{EarlyVerdicts, rewritten, Bytes, ReadBack, EveryTable}
+use Rattle.demands.specs.Demand3.{EarlyVerdicts, Bytes, ReadBack, EveryTable}
 
 early : (t : Table) (es : List Event) (r : Run) → length (t .rules) ≡ mostRules → validTable t ≡ true → Cycle es → Answers t es (running es) r → EarlyVerdicts t es r
 early t es r slots valid cycle answers k i w =
@@ -57,10 +54,6 @@ module _ (q r : Run) (valid-q : validRun q ≡ true) (valid-r : validRun r ≡ t
   unfolding totalsOf
   same-totals k = rw (valid-q, valid-r, rules, events, cells)
 
-valid-rules : (t : Table) → validTable t ≡ true → length (rulesOf t) ≤ mostRules → ValidRules (rulesOf t)
-unfolding validTable
-valid-rules t v few = record { most = few; valid = and-right (leb (t .count) mostRules) (all validRule (rulesOf t)) v }
-
 module _ (t : Table) (offered : List Event) (slots : length (t .rules) ≡ mostRules) (valid : validTable t ≡ true) where
   abbrev es : List Event
   es = taken offered
@@ -75,13 +68,12 @@ module _ (t : Table) (offered : List Event) (slots : length (t .rules) ≡ mostR
   cycle = cycle-of-taken offered
 
   read-rules : rulesTextOf (rulesText (rulesOf t)) ≡ All (map canonical (rulesOf t))
-  read-rules = rules-trips .read (rulesOf t) (valid-rules t valid (rw (rule-count t slots few) few))
+  read-rules = rules-trips .read (rulesOf t) (valid-rules t valid)
 
   rules-text : Bytes 2480 (rulesText (rulesOf t))
   rules-text =
-      let n : length (rulesOf t) ≤ mostRules = rw (rule-count t slots few) few in
-      let s : ValidRules (rulesOf t) = valid-rules t valid n in
-      record { bytes = rules-bytes .bytes (rulesOf t) s; few = omega (arith, rules-bytes .most (rulesOf t) s) }
+      let s = valid-rules t valid in
+      record { bytes = rules-bytes .bytes (rulesOf t) s; few = omega (arith, rules-bytes .most (rulesOf t) s, s .most) }
 
   cycle-text : Bytes 15872 (eventsText es)
   cycle-text = record { bytes = cycle-bytes .bytes es cycle; few = omega (arith, cycle-bytes .most es cycle, cycle .most) }

@@ -1,4 +1,4 @@
--- The proofs of the demands.
+-- The proofs of the demands and the cards.
 pub mod Chains
 pub mod Texts
 pub mod Fields
@@ -6,5 +6,6 @@ pub mod Lines
 pub mod Standings
 pub mod Early
 pub mod Demand1
+pub mod PrintBack
 pub mod Demand2
 pub mod Demand3

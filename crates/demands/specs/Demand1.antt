@@ -1,25 +1,27 @@
--- Demand 1: "every call .. gets a result or one of the fourteen numbers", exactly as document 01's
--- table and orders say.
+-- Demand 1: whoever calls "gets a result or one of" the fifteen numbers of document 01's table as
+-- the cards of document 02 change it, "each only for its listed cause"; and "a refusal alters
+-- neither run nor tally nor any lent buffer".
 --
--- Each call on records has a list of causes, in document 01's order. It is refused with the number
--- of the first that holds, and accepted if none holds. So has each line of a text (LineCauses); a
--- reader goes from line to line (Texts); the notebook reads the rules first.
+-- Each call on records has a list of causes, in the order of the documents. It is refused with the
+-- number of the first that holds, and accepted if none holds. So has each line of a text
+-- (LineCauses); a reader goes from line to line (Texts); the notebook reads the rules first.
 use mathlib.Core.Path.{_≡_}
 use mathlib.Core.Logic.{_↔_}
-use mathlib.Core.Bool.{true, not, _&&_}
+use mathlib.Core.Bool.{Bool, true, not, _&&_}
 use mathlib.Core.List.{List, [], _∷_}
 use Prim.Native.Nat.{ℕ}
 use lib.Dec.{leb, ltb}
+use lib.ListN.{length}
 use Rattle.declare.specs.declared.Event.{Event}
 use Rattle.declare.specs.declared.Rule.{Rule}
 use Rattle.declare.specs.declared.Table.{Table}
-use Rattle.declare.specs.declared.Refusal.the-variants.{OutOfRange, TimeFalls, TooMany, WrongPhase, NotFound, InvalidRecord, TallyOverflow}
+use Rattle.declare.specs.declared.Refusal.the-variants.{OutOfRange, TimeFalls, TooMany, WrongPhase, NotFound, InvalidRecord, TallyOverflow, BufferTooShort}
 use Rattle.declare.specs.Events.{wellFormed}
-use Rattle.declare.specs.Rules.{validTable}
+use Rattle.declare.specs.Rules.{rulesOf, validTable}
 use Rattle.declare.specs.Limits.{mostEvents}
 use Rattle.declare.specs.Answers.{Answer, accepted, refused, afterCall}
 use Rattle.run.specs.declared.Run.{Run}
-use Rattle.run.specs.Records.{horizonOf, totalsIn, validRun}
+use Rattle.run.specs.Records.{eventsOf, horizonOf, totalsIn, validRun}
 use Rattle.run.specs.Start.{startOf}
 use Rattle.run.specs.Take.{takeOf}
 use Rattle.run.specs.Close.{closeOf}
@@ -30,7 +32,12 @@ use Rattle.tally.specs.declared.Outcome.{Outcome}
 use Rattle.tally.specs.Tally.{hasRoomFor, absorbOf, tallyAnswer, Counts, Absorbs}
 use Rattle.line.specs.Texts.{All, Stop}
 use Rattle.cycle_text.specs.Cycle.{cycleTextOf}
+use Rattle.cycle_text.specs.Written.{eventsText}
 use Rattle.rule_text.specs.Rules.{rulesTextOf}
+use Rattle.rule_text.specs.Written.{rulesText}
+use Rattle.buffer.specs.declared.WriteAnswer.{WriteAnswer}
+use Rattle.buffer.specs.Writes.{writeAnswer, Writes}
+use Rattle.writer.specs.Writer.{writeRulesOf, writeCycleOf}
 use Rattle.notebook.specs.declared.Text.the-variants.{Rules, Cycle}
 use Rattle.notebook.specs.Notebook.{readAs, notRead, notebookOf}
 use Rattle.demands.specs.Causes.{Cause, cause, First, noneHolds}
@@ -82,6 +89,12 @@ absorbCauses r rule t =
     ∷ cause TallyOverflow (not (hasRoomFor t (totalsIn r rule)))
     ∷ []
 
+-- "15, the lent buffer is shorter than the text ..; checked after 11": writing the text of a record
+-- that is valid or not
+unfoldable pub writeCauses : Bool → List ℕ → List ℕ → List Cause
+writeCauses valid text buffer =
+    cause InvalidRecord (not valid) ∷ cause BufferTooShort (ltb (length buffer) (length text)) ∷ []
+
 -- "rules first": the notebook looks at the cycle text if the rules are accepted
 pub record ReadsBoth (rules cycle : List ℕ) : Type 0 where
   pub refuses-rules : (n line : ℕ) → (notebookOf rules cycle ≡ notRead Rules n line) ↔ (rulesTextOf rules ≡ Stop n line)
@@ -105,12 +118,21 @@ pub record Demand1 : Type 0 where
       → Counts r rule c
       → Absorbs before c next o
       → (tallyAnswer next o ≡ absorbOf r rule before) × (next ≡ afterCall before (absorbOf r rule before))
-  -- "a refusal alters neither run nor tally"
+  pub write-rules : (t : Table) (buffer : List ℕ)
+      → Refuses (writeCauses (validTable t) (rulesText (rulesOf t)) buffer) (writeRulesOf t buffer)
+  pub write-cycle : (r : Run) (buffer : List ℕ)
+      → Refuses (writeCauses (validRun r) (eventsText (eventsOf r)) buffer) (writeCycleOf r buffer)
+  -- "a refusal alters neither run nor tally nor any lent buffer"
   pub take-keeps : (r : Run) (e : Event) (n : ℕ) → takeOf r e ≡ refused n → afterCall r (takeOf r e) ≡ r
   pub close-keeps : (r : Run) (n : ℕ) → closeOf r ≡ refused n → afterCall r (closeOf r) ≡ r
   pub tally-keeps : (r : Run) (rule : ℕ) (t : Tally) (n : ℕ)
       → absorbOf r rule t ≡ refused n
       → afterCall t (absorbOf r rule t) ≡ t
+  -- the buffer at exit, by the contract of both calls that write
+  pub buffer-keeps : (valid : Bool) (text before after : List ℕ) (answer : WriteAnswer) (n : ℕ)
+      → Writes valid text before after answer
+      → writeAnswer answer ≡ refused n
+      → after ≡ before
   -- the texts, with the numbers that their readers can give
   pub rules-text : (text : List ℕ) → Reads ruleCauses rulesTextOf (1 ∷ 2 ∷ 3 ∷ 4 ∷ 5 ∷ 6 ∷ 8 ∷ 12 ∷ []) text
   pub cycle-text : (text : List ℕ) → Reads eventCauses cycleTextOf (1 ∷ 2 ∷ 3 ∷ 7 ∷ 8 ∷ 12 ∷ []) text

@@ -2,7 +2,7 @@
 use mathlib.Core.Path.{_≡_}
 use mathlib.Core.Logic.{_↔_}
 use mathlib.Core.Bool.{true, false}
-use mathlib.Core.List.{List, _++_, map}
+use mathlib.Core.List.{List, _++_}
 use Prim.Native.Nat.{ℕ, _≤_}
 use lib.ListN.{length}
 use Rattle.declare.specs.declared.Event.{Event}
@@ -28,8 +28,7 @@ use Rattle.run.specs.Queries.{standingOf, totalsOf}
 use Rattle.run.specs.Takes.{grown, finished, RunOf, Takes}
 use Rattle.line.specs.Fields.{isByte}
 use Rattle.cycle_text.specs.Written.{eventsText}
-use Rattle.declare.specs.Slots.{tableOf}
-use Rattle.rule_text.specs.Written.{rulesText, canonical}
+use Rattle.rule_text.specs.Written.{rulesText, rewritten}
 use Rattle.notebook.specs.Notebook.{readAs, notebookOf}
 use Rattle.demands.specs.Demand2.{InCycle, StandsFulfilled, StandsViolated}
 
@@ -67,11 +66,6 @@ EveryRecord =
     → (k i : ℕ) → InCycle (next .table) (eventsOf next) k i → TakenFrom r next k i
 
 -- ---- the notebook
-
--- the table read from the text of t's rules: the same rules, with noComparison and noRule in the
--- slots that are not in use
-abbrev pub rewritten : Table → Table
-rewritten t = tableOf (map canonical (rulesOf t))
 
 -- a list of numbers that a reader can be handed as bytes, at most so many
 pub record Bytes (most : ℕ) (text : List ℕ) : Type 0 where

@@ -1,7 +1,8 @@
--- What the library promises: the three demands, each as the type of its theorem.
+-- What the library promises: the three demands and the cards, each as the type of its theorem.
 pub mod Causes
 pub mod LineCauses
 pub mod Texts
 pub mod Demand1
+pub mod PrintBack
 pub mod Demand2
 pub mod Demand3

@@ -1,6 +1,6 @@
 -- Laws of a text's records, for every kind of record: a text by its first line; a written text read
 -- back, and an accepted text written again; and what holds of all records of an accepted text,
--- because it holds after each line.
+-- because it holds after each line. First the outcome that stands beside them.
 use mathlib.Core.Path.{_≡_, refl, sym, _∙_, ap}
 use mathlib.Core.Bool.{Bool, true, false}
 use mathlib.Core.List.{List, [], _∷_, _++_, append-nil, append-assoc}
@@ -13,9 +13,10 @@ use lib.ListN.{length, take, getD}
 use lib.Seq.{take-all, take-suc}
 use Rattle.declare.specs.Lists.{all}
 use Rattle.number.specs.Number.{none}
+use Rattle.line.specs.Types.{Outcome, Accepted, Refused}
 use Rattle.line.specs.Fields.{LF, tab, indexOf, before, following, split, eachAfter, joined}
 use Rattle.declare.specs.Answers.{Answer, accepted, refused, _>>=_}
-use Rattle.line.specs.Texts.{All, Stop, lineAfter, continued, linesOf, textOf, lineOf, writtenLine, writtenText}
+use Rattle.line.specs.Texts.{All, Stop, lineAfter, continued, linesOf, textOf, lineOf, writtenLine, writtenText, recordsRead}
 use Rattle.line.proofs.Fields.{before-take, parts}
 use Rattle.line.proofs.Joined.{lacks, split-before, split-joined, lacks-joined, joined-split}
 
@@ -26,6 +27,11 @@ stop-all e =
 
 pub all-all : {A : Type 0} {rs qs : List A} → All rs ≡ All qs → rs ≡ qs
 all-all e = cc
+
+pub outcome-accepted : {A : Type 0} (outcome : Outcome) (rs qs : List A) → recordsRead outcome rs ≡ All qs → outcome ≡ Accepted
+unfolding recordsRead
+outcome-accepted Accepted rs qs e = refl
+outcome-accepted (Refused cause line) rs qs e = absurd (stop-all e)
 
 some : (s : List ℕ) → 0 < length s → none s ≡ false
 unfolding none
@@ -74,7 +80,7 @@ module _ {A : Type 0} (fieldsOf : A → List (List ℕ)) where
   split-line r s h =
       rw (append-assoc (joined tab (fieldsOf r)) (LF ∷ []) s) (split-before LF (joined tab (fieldsOf r)) s (lacks-joined LF tab (fieldsOf r) refl h))
 
-  pub written-snoc : (above : List A) (r : A) → writtenText fieldsOf (above ++ (r ∷ [])) ≡ writtenText fieldsOf above ++ writtenLine fieldsOf r
+  written-snoc : (above : List A) (r : A) → writtenText fieldsOf (above ++ (r ∷ [])) ≡ writtenText fieldsOf above ++ writtenLine fieldsOf r
   unfolding writtenText
   written-snoc [] r = append-nil (writtenLine fieldsOf r)
   written-snoc (q ∷ above) r =

@@ -12,17 +12,17 @@ use Rattle.declare.specs.Limits.{mostRules}
 use Rattle.declare.specs.Rules.{noRule, ruleAt, rulesOf}
 use Rattle.declare.specs.Slots.{padded, tableOf}
 use Rattle.declare.proofs.Tables.{rule-count}
-use Rattle.rule_text.specs.Written.{canonical}
+use Rattle.rule_text.specs.Written.{canonical, rewritten}
 
 module _ (t : Table) (slots : length (t .rules) ≡ mostRules) (most : t .count ≤ mostRules) where
   count : length (rulesOf t) ≡ t .count
   count = rule-count t slots most
 
-  pub same-count : tableOf (map canonical (rulesOf t)) .count ≡ t .count
+  pub same-count : rewritten t .count ≡ t .count
   unfolding tableOf
   same-count = length-map (rulesOf t) canonical ∙ count
 
-  pub canonical-rule : (k : ℕ) → 1 ≤ k → k ≤ t .count → ruleAt (tableOf (map canonical (rulesOf t))) k ≡ canonical (ruleAt t k)
+  pub canonical-rule : (k : ℕ) → 1 ≤ k → k ≤ t .count → ruleAt (rewritten t) k ≡ canonical (ruleAt t k)
   unfolding ruleAt tableOf padded
   canonical-rule k a b =
       List·getD-append (map canonical (rulesOf t)) (replicate (mostRules - length (map canonical (rulesOf t))) noRule) noRule (k - 1) (rw (length-map (rulesOf t) canonical, count) (omega arith))

@@ -5,6 +5,7 @@ pub mod Conditions
 pub mod ConditionTexts
 pub mod Lines
 pub mod Turns
+pub mod Accepted
 pub mod Canonical
 pub mod RoundTrips
 pub mod Lengths

@@ -9,13 +9,14 @@ use native.Mathlib.Omega.{arith}
 use borrow.Author.Tests.{leb-true, le-leb, ltb-true, lt-ltb, eqb-true, ne-eqb}
 use lib.Dec.{leb, ltb}
 use lib.IntN.{pos}
-use lib.ListN.{length, getD, length-append}
+use lib.ListN.{length, getD, length-append, length-take}
 use Rattle.declare.specs.declared.Reading.the-variants.{Blank}
 use Rattle.declare.specs.Lists.{all}
 use Rattle.declare.specs.Limits.{lastActivity, lastTemplate, mostRules}
 use Rattle.declare.specs.Events.{latest, isActivity}
-use Rattle.declare.specs.Rules.{isTemplate, validCondition, validEnd, validWindow, validHead, validRule}
+use Rattle.declare.specs.Rules.{isTemplate, validCondition, validEnd, validWindow, validHead, validRule, rulesOf, validTable}
 use Rattle.declare.proofs.Booleans.{and₂, and₃, and₄, both, all-append}
+use Rattle.declare.proofs.Tables.{rules-within}
 use Rattle.number.specs.Number.{dash, none}
 use Rattle.number.specs.Written.{digitsOf, integerText}
 use Rattle.number.proofs.Written.{integer-not-dash}
@@ -28,7 +29,7 @@ use Rattle.line.proofs.Values.{dash-text, number-written, number-read, lacks-nu
 use Rattle.line.proofs.Lines.{all-numbered}
 use Rattle.line.proofs.Joined.{lacks}
 use Rattle.line.proofs.Texts.{Parted, Follow, text-written, text-back, accepted-records}
-use Rattle.rule_text.specs.Types.{End, Never, At, Rule}
+use Rattle.rule_text.specs.Types.{End, Never, At, Rule, Table}
 use Rattle.rule_text.specs.Conditions.{comma, conditionField}
 use Rattle.rule_text.specs.Rules.{endField, isAbove, ruleFieldCount, ruleOf, inTable, ruleAfter, rulesTextOf}
 use Rattle.rule_text.specs.Written.{conditionText, endText, ruleFields, rulesText, canonical, ValidRules, RoundTrips}
@@ -271,6 +272,13 @@ follow above (r ∷ rs) v m =
       ap (ruleAfter above) (canonical-fields r) ∙ after-written above r (p .0) (omega arith),
       follow (above ++ (canonical r ∷ [])) rs (p .1) (rw (length-append above (canonical r ∷ [])) (omega arith)),
     )
+
+-- the rules of a valid table are such rules
+pub valid-rules : (t : Table) → validTable t ≡ true → ValidRules (rulesOf t)
+unfolding validTable rulesOf
+valid-rules t v =
+    let p : (leb (t .count) mostRules ≡ true) × (all validRule (rulesOf t) ≡ true) = and₂ v in
+    record { most = rw (length-take (t .count) (t .rules)) (omega (arith, rules-within t v)); valid = p .1 }
 
 pub round-trips : RoundTrips
 unfolding rulesTextOf rulesText

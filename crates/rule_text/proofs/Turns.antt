@@ -1,6 +1,6 @@
 -- The reader's turns: the check of a rule below those above it, and the answers that the reader
 -- returns.
-use mathlib.Core.Path.{_≡_, refl, ap}
+use mathlib.Core.Path.{_≡_, sym, ap}
 use mathlib.Core.List.{List, []}
 use Prim.Native.Nat.{ℕ, _≤_, _<_}
 use borrow.Author.Tests.{lt-ltb, le-ltb}
@@ -11,10 +11,10 @@ use Rattle.declare.specs.Rules.{noRule, rulesOf}
 use Rattle.declare.specs.Answers.{accepted, refused, _>>_, require}
 use Rattle.declare.specs.Slots.{tableOf}
 use Rattle.declare.proofs.Filled.{Filled, filled-count}
-use Rattle.line.specs.Texts.{Records, All, Stop, recordsRead}
+use Rattle.line.specs.Texts.{All, Stop, recordsRead}
 use Rattle.rule_text.specs.Types.{Rule, Refusal, Accepted, Refused, RulesRead}
-use Rattle.rule_text.specs.Rules.{inTable}
-use Rattle.rule_text.specs.Reads.{rulesIn}
+use Rattle.rule_text.specs.Rules.{inTable, rulesTextOf}
+use Rattle.rule_text.specs.Reads.{rulesIn, ReadsRules}
 
 module _ (above : List Rule) (r : Rule) where
   pub full : mostRules ≤ length above → inTable above r ≡ refused 8
@@ -25,13 +25,16 @@ module _ (above : List Rule) (r : Rule) where
   unfolding _>>_ require inTable
   in-table m = rw (lt-ltb (length above) mostRules m)
 
--- ---- what is returned, for what the text x gives
+-- ---- what is returned
 
-pub answer-refused : (x : Records Rule) (r : RulesRead) (cause : Refusal) (line : ℕ) → r .outcome ≡ Refused cause line → r .table ≡ tableOf [] → x ≡ Stop (numberOf cause) line → (recordsRead (r .outcome) (rulesOf (r .table)) ≡ x) × (r .table ≡ tableOf (rulesIn x))
+pub answer-refused : (text : List ℕ) (r : RulesRead) (cause : Refusal) (line : ℕ) → r .outcome ≡ Refused cause line → r .table ≡ tableOf [] → rulesTextOf text ≡ Stop (numberOf cause) line → ReadsRules text r
 unfolding recordsRead rulesIn
-answer-refused x r cause line p t q = rw (p, t, q) (refl, refl)
+answer-refused text r cause line p t q = record { records = rw (p, q); table = rw q t }
 
-pub answer-accepted : (x : Records Rule) (count : ℕ) (rules : List Rule) → Filled mostRules noRule count rules → x ≡ All (take count rules) → (recordsRead Accepted (rulesOf (record { count = count; rules = rules })) ≡ x) × (record { count = count; rules = rules } ≡ tableOf (rulesIn x))
+pub answer-accepted : (text : List ℕ) (count : ℕ) (rules : List Rule) → Filled mostRules noRule count rules → rulesTextOf text ≡ All (take count rules) → ReadsRules text (record { outcome = Accepted; table = record { count = count; rules = rules } })
 unfolding recordsRead rulesIn rulesOf tableOf
-answer-accepted x count rules h q =
-    rw q (refl, rw (filled-count mostRules noRule count rules h) (ap (λ (s : List Rule). record { count = count; rules = s }) (h .same)))
+answer-accepted text count rules h q =
+    record {
+      records = sym q;
+      table = rw (q, filled-count mostRules noRule count rules h) (ap (λ (s : List Rule). record { count = count; rules = s }) (h .same));
+    }

@@ -1,15 +1,18 @@
--- What the reader's answers say, by document 01's numbers; how it goes over a line; and what stands
--- beside its answer.
+-- What the reader's answers say, by document 01's numbers; how it goes over a line; and what it
+-- promises of a text.
+use mathlib.Core.Path.{_≡_}
 use mathlib.Core.List.{List, []}
 use Prim.Native.Nat.{ℕ}
 use lib.IntN.{ℤ}
 use Rattle.declare.specs.Refusals.{numberOf}
+use Rattle.declare.specs.Rules.{rulesOf}
+use Rattle.declare.specs.Slots.{tableOf}
 use Rattle.line.specs.Fields.{indexOf, before}
 use Rattle.declare.specs.Answers.{Answer, accepted, refused, _>>=_, _>>_, require}
-use Rattle.line.specs.Texts.{Records, All, Stop}
-use Rattle.rule_text.specs.Types.{Operator, Reference, Comparison, Condition, End, Rule, OperatorAnswer, Compares, NoOperator, KAnswer, K, NoK, ReferenceAnswer, Refers, NoReference, ComparisonAnswer, Compared, NotCompared, ConditionAnswer, Comparisons, NoComparisons, EndAnswer, Until, NoUntil, RuleHead, HeadAnswer, Head, NoHead, RuleAnswer, Found, NoRule}
+use Rattle.line.specs.Texts.{Records, All, Stop, recordsRead}
+use Rattle.rule_text.specs.Types.{Operator, Reference, Comparison, Condition, End, Rule, OperatorAnswer, Compares, NoOperator, KAnswer, K, NoK, ReferenceAnswer, Refers, NoReference, ComparisonAnswer, Compared, NotCompared, ConditionAnswer, Comparisons, NoComparisons, EndAnswer, Until, NoUntil, RuleHead, HeadAnswer, Head, NoHead, RuleAnswer, Found, NoRule, RulesRead}
 use Rattle.rule_text.specs.Conditions.{comma}
-use Rattle.rule_text.specs.Rules.{isAbove}
+use Rattle.rule_text.specs.Rules.{isAbove, rulesTextOf}
 
 -- ---- comparisons, from the part of a condition that begins at one
 
@@ -79,9 +82,14 @@ ruleBy head condition correlation = do
   require (isAbove (h .window .until) (h .window .from)) 6
   accepted (record { code = h .code; activation = h .activation; target = h .target; window = h .window; condition = condition; correlation = correlation })
 
--- ---- the table
+-- ---- the text
 
 -- the rules of an accepted text; none of a refused one
 unfoldable pub rulesIn : Records Rule → List Rule
 rulesIn (All rs) = rs
 rulesIn (Stop n line) = []
+
+-- what read_rules promises of a text; the table beside a refusal has no rules
+pub record ReadsRules (text : List ℕ) (r : RulesRead) : Type 0 where
+  pub records : recordsRead (r .outcome) (rulesOf (r .table)) ≡ rulesTextOf text
+  pub table : r .table ≡ tableOf (rulesIn (rulesTextOf text))

@@ -7,12 +7,13 @@ use lib.ListN.{length}
 use Rattle.declare.specs.Lists.{all}
 use Rattle.declare.specs.Limits.{mostRules}
 use Rattle.declare.specs.Conditions.{comparisonsOf}
-use Rattle.declare.specs.Rules.{validRule}
+use Rattle.declare.specs.Rules.{rulesOf, validRule}
+use Rattle.declare.specs.Slots.{tableOf}
 use Rattle.number.specs.Number.{hyphen}
 use Rattle.number.specs.Written.{digitsOf, integerText}
 use Rattle.line.specs.Fields.{isByte, joined}
 use Rattle.line.specs.Texts.{All, writtenText}
-use Rattle.rule_text.specs.Types.{Reference, Constant, Activation, Comparison, Condition, End, Never, At, Rule}
+use Rattle.rule_text.specs.Types.{Reference, Constant, Activation, Comparison, Condition, End, Never, At, Rule, Table}
 use Rattle.rule_text.specs.Comparisons.{colon, atSign, operatorByte}
 use Rattle.rule_text.specs.Conditions.{comma, conditionOf}
 use Rattle.rule_text.specs.Rules.{rulesTextOf}
@@ -52,8 +53,8 @@ ruleFields r =
 unfoldable pub rulesText : List Rule → List ℕ
 rulesText rs = writtenText ruleFields rs
 
--- ---- slots past a condition's count: a text says nothing of them, and a rule that was read has
--- noComparison there
+-- ---- slots past a count: a text says nothing of them, and what was read has noComparison and
+-- noRule there
 
 unfoldable pub canonicalCondition : Condition → Condition
 canonicalCondition c = conditionOf (comparisonsOf c)
@@ -69,6 +70,11 @@ canonical r =
       condition = canonicalCondition (r .condition);
       correlation = canonicalCondition (r .correlation);
     }
+
+-- the same rules, with noComparison and noRule in the slots that are not in use: the table that is
+-- read from the text of t's rules
+abbrev pub rewritten : Table → Table
+rewritten t = tableOf (map canonical (rulesOf t))
 
 -- ---- both ways
 

@@ -6,11 +6,8 @@ mod rule; // rule.rt: rule lines
 
 ghost use mathlib.Core.Path.{_≡_};
 ghost use mathlib.Core.List.{[]};
-ghost use Rattle.declare.specs.Rules.{rulesOf};
-ghost use Rattle.line.specs.Texts.{recordsRead};
-ghost use Rattle.rule_text.specs.Rules.{rulesTextOf};
 ghost use Rattle.declare.specs.Slots.{tableOf};
-ghost use Rattle.rule_text.specs.Reads.{rulesIn};
+ghost use Rattle.rule_text.specs.Reads.{ReadsRules};
 use crate::rule::RuleAnswer;
 use crate::rule::rule_line;
 use declare::RULES;
@@ -40,8 +37,7 @@ fn refused(cause: Refusal, line: usize) -> RulesRead
 // The rules of a rules text. Each line's reader is handed the part of the text that begins at the
 // line.
 pub fn read_rules(text: &[u8]) -> RulesRead
-    ensures { λ r. ⌜ recordsRead (r .outcome) (rulesOf (r .table)) ≡ rulesTextOf (now (text .entry)) ⌝ }
-    ensures { λ r. ⌜ r .table ≡ tableOf (rulesIn (rulesTextOf (now (text .entry)))) ⌝ }
+    ensures { λ r. ⌜ ReadsRules (now (text .entry)) r ⌝ }
 {
     let none = no_rule();
     let mut rules = [none; RULES];

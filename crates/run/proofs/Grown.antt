@@ -28,7 +28,7 @@ use Rattle.standings.proofs.Changes.{changed-length, changed-kept, changed-stan
 use Rattle.standings.proofs.Same.{same-cells}
 use Rattle.judge.specs.Cells.{judged, judgedAt, judgedCells}
 use Rattle.run.specs.declared.Run.{Run}
-use Rattle.run.specs.Records.{withEvents, withStandings, asClosed}
+use Rattle.run.specs.Records.{eventsOf, withEvents, withStandings, asClosed, validRun}
 use Rattle.run.specs.Start.{newRun}
 use Rattle.run.specs.Close.{closedRun, finishedRun}
 use Rattle.run.specs.Takes.{grown, RunOf, finished}
@@ -44,6 +44,10 @@ module _ (t : Table) (es : List Event) where
   first : take (length es) (eventSlots es) ≡ es
   unfolding padded
   first = take-append-seam es (replicate (mostEvents - length es) emptySlot)
+
+  pub finished-events : eventsOf (finishedRun t (length es) (eventSlots es)) ≡ es
+  unfolding eventsOf finishedRun
+  finished-events = first
 
   abbrev finishedCells : List Cell
   finishedCells = finishedRun t (length es) (eventSlots es) .cells
@@ -92,3 +96,6 @@ module _ (t : Table) (slots : length (t .rules) ≡ mostRules) (valid : validTab
 
       run : Table → ℕ → List Event → List Cell → Run
       run u n l cells = asClosed (withStandings (withEvents (newRun u) n l) cells)
+
+  pub finished-valid : validRun (finishedRun t (length es) (eventSlots es)) ≡ true
+  finished-valid = ap validRun finished-is-grown ∙ closed .valid

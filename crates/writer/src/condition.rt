@@ -16,7 +16,7 @@ fn put_next(out: &mut [u8], at: usize, c: Comparison) -> usize
     put_comparison(out, at, c)
 }
 
-fn put_comparisons(out: &mut [u8], at: usize, c: Condition) -> usize
+fn put_condition(out: &mut [u8], at: usize, c: Condition) -> usize
     ensures { λ r. ⌜ Puts (conditionText c) (now (out .entry)) at (now (out .exit)) r ⌝ }
 {
     let count = c.count;
@@ -39,9 +39,9 @@ fn put_comparisons(out: &mut [u8], at: usize, c: Condition) -> usize
 }
 
 // A condition, and the byte that ends its field.
-pub fn put_condition(out: &mut [u8], at: usize, c: Condition, end: u8) -> usize
+pub fn put_condition_field(out: &mut [u8], at: usize, c: Condition, end: u8) -> usize
     ensures { λ r. ⌜ Puts (conditionText c ++ (end ∷ [])) (now (out .entry)) at (now (out .exit)) r ⌝ }
 {
-    let at = put_comparisons(out, at, c);
+    let at = put_condition(out, at, c);
     put_byte(out, at, end)
 }

@@ -5,9 +5,9 @@ ghost use Rattle.declare.specs.Limits.{mostEvents};
 ghost use Rattle.line.specs.Texts.{writtenLine};
 ghost use Rattle.cycle_text.specs.Written.{eventFields, eventsText};
 ghost use Rattle.buffer.specs.Puts.{Puts};
-use crate::reading::put_reading;
-use crate::reading::put_small;
-use buffer::numbers::put_field;
+use crate::field::put_byte_field;
+use crate::field::put_reading_field;
+use buffer::numbers::put_number_field;
 use declare::EVENTS;
 use declare::Event;
 use line::LINE_FEED;
@@ -20,12 +20,12 @@ fn put_event(out: &mut [u8], at: usize, e: Event) -> usize
     let reading2 = e.reading2;
     let reading3 = e.reading3;
     let reading4 = e.reading4;
-    let at = put_field(out, at, e.time, TAB);
-    let at = put_small(out, at, e.activity, TAB);
-    let at = put_reading(out, at, reading1, TAB);
-    let at = put_reading(out, at, reading2, TAB);
-    let at = put_reading(out, at, reading3, TAB);
-    put_reading(out, at, reading4, LINE_FEED)
+    let at = put_number_field(out, at, e.time, TAB);
+    let at = put_byte_field(out, at, e.activity, TAB);
+    let at = put_reading_field(out, at, reading1, TAB);
+    let at = put_reading_field(out, at, reading2, TAB);
+    let at = put_reading_field(out, at, reading3, TAB);
+    put_reading_field(out, at, reading4, LINE_FEED)
 }
 
 // The lines of the first `count` events, from the buffer's front on.

@@ -8,7 +8,7 @@ use limits::table::valid_table;
 use run::Run;
 use run::record::valid_run;
 
-mod reading; // reading.rt: readings
+mod field; // field.rt: fields of small numbers and of readings
 mod event; // event.rt: the lines of events
 mod comparison; // comparison.rt: comparisons
 mod condition; // condition.rt: conditions

@@ -6,10 +6,10 @@ ghost use Rattle.declare.specs.Limits.{mostRules};
 ghost use Rattle.line.specs.Texts.{writtenLine};
 ghost use Rattle.rule_text.specs.Written.{endText, ruleFields, rulesText};
 ghost use Rattle.buffer.specs.Puts.{Puts};
-use crate::condition::put_condition;
-use crate::reading::put_small;
-use buffer::numbers::put_field;
+use crate::condition::put_condition_field;
+use crate::field::put_byte_field;
 use buffer::numbers::put_number;
+use buffer::numbers::put_number_field;
 use buffer::put::put_byte;
 use declare::End;
 use declare::RULES;
@@ -17,7 +17,7 @@ use declare::Rule;
 use line::LINE_FEED;
 use line::TAB;
 
-fn put_until(out: &mut [u8], at: usize, until: End) -> usize
+fn put_end(out: &mut [u8], at: usize, until: End) -> usize
     ensures { λ r. ⌜ Puts (endText until) (now (out .entry)) at (now (out .exit)) r ⌝ }
 {
     match until {
@@ -27,10 +27,10 @@ fn put_until(out: &mut [u8], at: usize, until: End) -> usize
 }
 
 // The end of a window, and the byte that ends its field.
-fn put_end(out: &mut [u8], at: usize, until: End, end: u8) -> usize
+fn put_end_field(out: &mut [u8], at: usize, until: End, end: u8) -> usize
     ensures { λ r. ⌜ Puts (endText until ++ (end ∷ [])) (now (out .entry)) at (now (out .exit)) r ⌝ }
 {
-    let at = put_until(out, at, until);
+    let at = put_end(out, at, until);
     put_byte(out, at, end)
 }
 
@@ -39,13 +39,13 @@ fn put_rule(out: &mut [u8], at: usize, rule: Rule) -> usize
 {
     let window = rule.window;
     let until = window.until;
-    let at = put_small(out, at, rule.code, TAB);
-    let at = put_small(out, at, rule.activation, TAB);
-    let at = put_small(out, at, rule.target, TAB);
-    let at = put_field(out, at, window.from, TAB);
-    let at = put_end(out, at, until, TAB);
-    let at = put_condition(out, at, rule.condition, TAB);
-    put_condition(out, at, rule.correlation, LINE_FEED)
+    let at = put_byte_field(out, at, rule.code, TAB);
+    let at = put_byte_field(out, at, rule.activation, TAB);
+    let at = put_byte_field(out, at, rule.target, TAB);
+    let at = put_number_field(out, at, window.from, TAB);
+    let at = put_end_field(out, at, until, TAB);
+    let at = put_condition_field(out, at, rule.condition, TAB);
+    put_condition_field(out, at, rule.correlation, LINE_FEED)
 }
 
 // The lines of the first `count` rules, from the buffer's front on.

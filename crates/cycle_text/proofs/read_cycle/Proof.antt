@@ -142,7 +142,7 @@ returns-4 : tie.Need-returns-4 Inv-loop μ-loop
 unfolding cycleTextOf eventAfter
 returns-4 c =
     let t = c .before .loop .inv .0 in
-    answer-accepted (cycleTextOf (c .before .before .before .before .args .text .now)) _ _ (t .filled) (last-turn t (c .loop-test .left))
+    answer-accepted _ _ _ (t .filled) (last-turn t (c .loop-test .left))
 
 pub read-cycle-spec : {M : Type 1} → statement M
 read-cycle-spec =

@@ -28,14 +28,14 @@ read-with-requires c κs = search needs
 returns : tie.Need-returns
 returns c =
     let k = c .before .before .before .before .before in
-    rules-refused _ _ (k .read-rules .result) _ _ _ (k .read-rules .ensures .0) (k .read-rules .ensures .1) (c .before .before .outcome .given .1)
+    rules-refused _ _ (k .read-rules .result) _ _ _ (k .read-rules .ensures) (c .before .before .outcome .given .1)
     (record { outcome = c .refused .ensures .0; run = c .refused .ensures .1 })
 
 -- src/lib.rt:82:1
 returns-2 : tie.Need-returns-2
 returns-2 c =
     let k = c .before .before .before .before in
-    rules-accepted _ _ (k .read-rules .result) _ (k .read-rules .ensures .0) (k .read-rules .ensures .1) (c .before .enum-told .given .1) (c .read-with .ensures)
+    rules-accepted _ _ (k .read-rules .result) _ (k .read-rules .ensures) (c .before .enum-told .given .1) (c .read-with .ensures)
 
 pub read-notebook-spec : {M : Type 1} → statement M
 read-notebook-spec =

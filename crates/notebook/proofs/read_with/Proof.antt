@@ -28,14 +28,14 @@ finished-requires c κs = search needs
 returns : tie.Need-returns
 returns c =
     let k = c .before .before .before .before in
-    cycle-refused _ _ (k .read-cycle .result) _ _ _ (k .read-cycle .ensures .0) (c .before .before .outcome .given .1)
+    cycle-refused _ _ (k .read-cycle .result) _ _ _ (k .read-cycle .ensures) (c .before .before .outcome .given .1)
     (record { outcome = c .refused .ensures .0; run = c .refused .ensures .1 })
 
 -- src/lib.rt:64:1
 returns-2 : tie.Need-returns-2
 returns-2 c =
     let k = c .before .before .before .before in
-    cycle-accepted _ _ (k .read-cycle .result) _ (k .read-cycle .ensures .0) (k .read-cycle .ensures .1 .0) (k .read-cycle .ensures .1 .1) (c .before .before .enum-told .given .1) (c .finished .ensures)
+    cycle-accepted _ _ (k .read-cycle .result) _ (k .read-cycle .ensures) (c .before .before .enum-told .given .1) (c .finished .ensures)
 
 pub read-with-spec : {M : Type 1} → statement M
 read-with-spec =

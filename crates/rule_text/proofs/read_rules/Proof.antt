@@ -119,7 +119,7 @@ returns-3 : tie.Need-returns-3 Inv-loop μ-loop
 unfolding rulesTextOf ruleAfter
 returns-3 c =
     let t = c .before .loop .inv in
-    answer-accepted (rulesTextOf (c .before .before .before .before .args .text .now)) _ _ (t .filled) (last-turn t (c .loop-test .left))
+    answer-accepted _ _ _ (t .filled) (last-turn t (c .loop-test .left))
 
 pub read-rules-spec : {M : Type 1} → statement M
 read-rules-spec =

@@ -5,7 +5,9 @@ use borrow.Author.Tests.{not-true, not-false}
 use lib.Seq.{length-take-le}
 use Rattle.run.specs.Records.{eventsOf, validRun}
 use Rattle.run.proofs.Bounds.{valid-parts}
-use Rattle.writer.proofs.Room.{cycle-room, refuses, in-room, hands-on}
+use Rattle.buffer.proofs.Puts.{puts-within}
+use Rattle.buffer.proofs.Writes.{refuses, hands-on}
+use Rattle.writer.proofs.Room.{cycle-room}
 use borrow.Author.Needs.{needs}
 use Rattle.writer.proofs.write_cycle.Statement.{statement}
 use Rattle.writer.proofs.write_cycle.Tie as tie
@@ -29,13 +31,13 @@ array-share-prefix-text : tie.Need-array-share-prefix-text
 unfolding eventsOf
 array-share-prefix-text c =
     let put = c .before in
-    in-room (cycle-room _ (past-valid (put .before .before .before))) (put .put-events .ensures)
+    puts-within (cycle-room _ (past-valid (put .before .before .before))) (put .put-events .ensures)
 
 slice-aggregate-write : tie.Need-slice-aggregate-write
 unfolding eventsOf
 slice-aggregate-write c =
     let put = c .before .before in
-    sym (length-take-le _ _ (in-room (cycle-room _ (past-valid (put .before .before .before))) (put .put-events .ensures)))
+    sym (length-take-le _ _ (puts-within (cycle-room _ (past-valid (put .before .before .before))) (put .put-events .ensures)))
 
 write-requires : tie.Need-write-requires
 write-requires c κs = search needs

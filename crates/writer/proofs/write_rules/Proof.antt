@@ -5,7 +5,9 @@ use borrow.Author.Tests.{not-true, not-false}
 use lib.Seq.{length-take-le}
 use Rattle.declare.specs.Rules.{rulesOf, validTable}
 use Rattle.declare.proofs.Tables.{rules-within}
-use Rattle.writer.proofs.Room.{rules-room, refuses, in-room, hands-on}
+use Rattle.buffer.proofs.Puts.{puts-within}
+use Rattle.buffer.proofs.Writes.{refuses, hands-on}
+use Rattle.writer.proofs.Room.{rules-room}
 use borrow.Author.Needs.{needs}
 use Rattle.writer.proofs.write_rules.Statement.{statement}
 use Rattle.writer.proofs.write_rules.Tie as tie
@@ -29,13 +31,13 @@ array-share-prefix-text : tie.Need-array-share-prefix-text
 unfolding rulesOf
 array-share-prefix-text c =
     let put = c .before in
-    in-room (rules-room _ (past-valid (put .before .before .before))) (put .put-rules .ensures)
+    puts-within (rules-room _ (past-valid (put .before .before .before))) (put .put-rules .ensures)
 
 slice-aggregate-write : tie.Need-slice-aggregate-write
 unfolding rulesOf
 slice-aggregate-write c =
     let put = c .before .before in
-    sym (length-take-le _ _ (in-room (rules-room _ (past-valid (put .before .before .before))) (put .put-rules .ensures)))
+    sym (length-take-le _ _ (puts-within (rules-room _ (past-valid (put .before .before .before))) (put .put-rules .ensures)))
 
 write-requires : tie.Need-write-requires
 write-requires c κs = search needs

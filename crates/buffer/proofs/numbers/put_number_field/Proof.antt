@@ -1,8 +1,8 @@
 -- The number, then the byte.
 use Rattle.buffer.proofs.Puts.{puts-then}
 use borrow.Author.Needs.{needs}
-use Rattle.buffer.proofs.numbers.put_field.Statement.{statement}
-use Rattle.buffer.proofs.numbers.put_field.Tie as tie
+use Rattle.buffer.proofs.numbers.put_number_field.Statement.{statement}
+use Rattle.buffer.proofs.numbers.put_number_field.Tie as tie
 
 put-number-requires : tie.Need-put-number-requires
 put-number-requires c κs = search needs
@@ -18,5 +18,5 @@ returns c =
     let last = c .before .before in
     puts-then (last .before .before .before .before .put-number .ensures) (last .put-byte .ensures)
 
-pub put-field-spec : {M : Type 1} → statement M
-put-field-spec = tie.close (tie.spec put-number-requires put-byte-requires same-length returns)
+pub put-number-field-spec : {M : Type 1} → statement M
+put-number-field-spec = tie.close (tie.spec put-number-requires put-byte-requires same-length returns)

@@ -7,8 +7,8 @@ use Rattle.number.specs.Written.{integerText}
 use Rattle.line.specs.Values.{readingText}
 use Rattle.buffer.proofs.Puts.{puts-as}
 use borrow.Author.Needs.{needs}
-use Rattle.writer.proofs.reading.put_value.Statement.{statement}
-use Rattle.writer.proofs.reading.put_value.Tie as tie
+use Rattle.writer.proofs.field.put_reading.Statement.{statement}
+use Rattle.writer.proofs.field.put_reading.Tie as tie
 
 enum-told : tie.Need-enum-told
 enum-told c = search needs
@@ -42,8 +42,8 @@ returns-2 c =
     let same = toZ-ofZ {w = w32} {z = told .before .reading .given .0 .0} (sfits-of (told .known-told .given .0 .1)) in
     rw (told .before .reading .given .1) (puts-as (ap integerText same) (last .put-integer .ensures))
 
-pub put-value-spec : {M : Type 1} → statement M
-put-value-spec =
+pub put-reading-spec : {M : Type 1} → statement M
+put-reading-spec =
     tie.close
     (tie.spec
     enum-told
