@@ -1,10 +1,9 @@
 -- Laws of `stored` and `placeAfter`: one text after another is put as the two together, and a text
 -- that has room stands whole.
-use mathlib.Core.Path.{_≡_, refl, sym, ap, _∙_}
+use mathlib.Core.Path.{_≡_, refl, sym, _∙_}
 use mathlib.Core.List.{List, [], _∷_, _++_, append-assoc}
-use Prim.Native.Nat.{ℕ, zero, suc, _+_, _≤_, _<_}
+use Prim.Native.Nat.{ℕ, _+_, _≤_, _<_}
 use native.Mathlib.Omega.{arith}
-use native.Mathlib.Numerals.{add-one}
 use borrow.Author.Tests.{lt-ltb, le-ltb}
 use lib.ListN.{length, set, take, drop, length-set, length-append}
 use lib.Seq.{set-out, set-append-seam, take-append-seam}
@@ -12,46 +11,42 @@ use Rattle.buffer.specs.Puts.{next, placeAfter, stored, Puts}
 
 -- ---- the place
 
-pub next-in : (room at : ℕ) → at < room → next room at ≡ at + 1
+next-in : (room at : ℕ) → at < room → next room at ≡ at + 1
 unfolding next
 next-in room at h = simp (lt-ltb at room h)
 
-pub next-out : (room at : ℕ) → room ≤ at → next room at ≡ at
+next-out : (room at : ℕ) → room ≤ at → next room at ≡ at
 unfolding next
 next-out room at h = simp (le-ltb at room h)
 
-pub place-in : (room at : ℕ) (xs : List ℕ) → at + length xs ≤ room → placeAfter room at xs ≡ at + length xs
+place-in : (room at : ℕ) (xs : List ℕ) → at + length xs ≤ room → placeAfter room at xs ≡ at + length xs
 unfolding placeAfter
 place-in room at [] h = omega arith
 place-in room at (b ∷ xs) h = rw (next-in room at (omega arith)) (place-in room (at + 1) xs (omega arith) ∙ omega arith)
 
-pub place-out : (room at : ℕ) (xs : List ℕ) → room ≤ at → placeAfter room at xs ≡ at
+place-out : (room at : ℕ) (xs : List ℕ) → room ≤ at → placeAfter room at xs ≡ at
 unfolding placeAfter
 place-out room at [] h = refl
 place-out room at (b ∷ xs) h = rw (next-out room at h) (place-out room at xs h)
 
-pub place-append : (room at : ℕ) (xs ys : List ℕ) → placeAfter room at (xs ++ ys) ≡ placeAfter room (placeAfter room at xs) ys
+place-append : (room at : ℕ) (xs ys : List ℕ) → placeAfter room at (xs ++ ys) ≡ placeAfter room (placeAfter room at xs) ys
 unfolding placeAfter
 place-append room at [] ys = refl
 place-append room at (b ∷ xs) ys = place-append room (next room at) xs ys
 
 -- ---- the buffer
 
-pub length-stored : (l : List ℕ) (at : ℕ) (xs : List ℕ) → length (stored l at xs) ≡ length l
+length-stored : (l : List ℕ) (at : ℕ) (xs : List ℕ) → length (stored l at xs) ≡ length l
 unfolding stored
 length-stored l at [] = refl
 length-stored l at (b ∷ xs) = length-stored (set l at b) (next (length l) at) xs ∙ length-set l at b
 
-pub stored-one : (l : List ℕ) (at b : ℕ) → stored l at (b ∷ []) ≡ set l at b
-unfolding stored
-stored-one l at b = refl
-
-pub stored-out : (l : List ℕ) (at : ℕ) (xs : List ℕ) → length l ≤ at → stored l at xs ≡ l
+stored-out : (l : List ℕ) (at : ℕ) (xs : List ℕ) → length l ≤ at → stored l at xs ≡ l
 unfolding stored
 stored-out l at [] h = refl
 stored-out l at (b ∷ xs) h = rw (set-out l at b h, next-out (length l) at h) (stored-out l at xs h)
 
-pub stored-append : (l : List ℕ) (at : ℕ) (xs ys : List ℕ) → stored l at (xs ++ ys) ≡ stored (stored l at xs) (placeAfter (length l) at xs) ys
+stored-append : (l : List ℕ) (at : ℕ) (xs ys : List ℕ) → stored l at (xs ++ ys) ≡ stored (stored l at xs) (placeAfter (length l) at xs) ys
 unfolding stored placeAfter
 stored-append l at [] ys = refl
 stored-append l at (b ∷ xs) ys =
@@ -69,7 +64,7 @@ stored-behind ys (x ∷ l) (b ∷ xs) h =
     (rw (← one, ← append-assoc ys (b ∷ []) l) (stored-behind (ys ++ (b ∷ [])) l xs (omega arith)) ∙ append-assoc ys (b ∷ []) (xs ++ drop (length xs) l))
 
 -- from the front, with room
-pub stored-front : (l xs : List ℕ) → length xs ≤ length l → stored l 0 xs ≡ xs ++ drop (length xs) l
+stored-front : (l xs : List ℕ) → length xs ≤ length l → stored l 0 xs ≡ xs ++ drop (length xs) l
 stored-front l xs h = stored-behind [] l xs h
 
 -- ---- what a function promises

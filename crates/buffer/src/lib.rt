@@ -1,5 +1,4 @@
 // Lent buffers: bytes and numbers are put at a place, and a whole text is written in front.
-ghost use mathlib.Core.Path.{_≡_};
 ghost use mathlib.Core.Bool.{true};
 ghost use Rattle.buffer.specs.Writes.{Writes};
 use crate::put::put_bytes;

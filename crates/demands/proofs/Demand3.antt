@@ -31,6 +31,7 @@ use Rattle.rule_text.proofs.RoundTrips.{valid-rules, round-trips as rules-trips
 use Rattle.cycle_text.proofs.Lengths.{written-bytes as cycle-bytes}
 use Rattle.rule_text.proofs.Lengths.{written-bytes as rules-bytes}
 use Rattle.rule_text.proofs.Canonical.{canonical-verdict}
+use Rattle.writer.specs.Writer.{rulesBytes, cycleBytes}
 use Rattle.notebook.specs.Notebook.{readAs, notebookOf}
 use Rattle.notebook.proofs.Tables.{same-count, canonical-rule}
 use Rattle.notebook.proofs.Replies.{accepted-texts}
@@ -70,12 +71,12 @@ module _ (t : Table) (offered : List Event) (slots : length (t .rules) ≡ mostR
   read-rules : rulesTextOf (rulesText (rulesOf t)) ≡ All (map canonical (rulesOf t))
   read-rules = rules-trips .read (rulesOf t) (valid-rules t valid)
 
-  rules-text : Bytes 2480 (rulesText (rulesOf t))
+  rules-text : Bytes rulesBytes (rulesText (rulesOf t))
   rules-text =
       let s = valid-rules t valid in
       record { bytes = rules-bytes .bytes (rulesOf t) s; few = omega (arith, rules-bytes .most (rulesOf t) s, s .most) }
 
-  cycle-text : Bytes 15872 (eventsText es)
+  cycle-text : Bytes cycleBytes (eventsText es)
   cycle-text = record { bytes = cycle-bytes .bytes es cycle; few = omega (arith, cycle-bytes .most es cycle, cycle .most) }
 
   rules-valid : ValidRules (map canonical (rulesOf t))

@@ -1,9 +1,10 @@
 -- The calls that write promise an equation with the written text. Reading and writing undo each
 -- other on texts (RoundTrips), and the calls that read promise what their text holds.
-use mathlib.Core.Path.{_≡_, sym, ap, subst, _∙_}
-use mathlib.Core.Bool.{Bool, true}
-use mathlib.Core.List.{List, map}
+use mathlib.Core.Path.{_≡_, refl, sym, ap, subst, _∙_}
+use mathlib.Core.Bool.{Bool, true, false}
+use mathlib.Core.List.{List, _++_, map}
 use Prim.Native.Nat.{ℕ, _≤_}
+use native.Mathlib.Omega.{arith}
 use borrow.Author.Tests.{le-leb}
 use lib.Dec.{leb}
 use lib.ListN.{length, take, drop}
@@ -13,7 +14,7 @@ use Rattle.declare.specs.declared.Rule.{Rule}
 use Rattle.declare.specs.declared.Table.{Table}
 use Rattle.declare.specs.Rules.{rulesOf, validTable}
 use Rattle.declare.specs.Slots.{eventSlots, tableOf}
-use Rattle.declare.specs.Answers.{accepted}
+use Rattle.declare.specs.Answers.{accepted, refused, _>>_, require}
 use Rattle.declare.proofs.Answers.{no-of, of-of, required, passed}
 use Rattle.declare.proofs.Tables.{table-rules, table-slots, table-valid}
 use Rattle.run.specs.declared.Run.{Run}
@@ -40,34 +41,43 @@ use Rattle.buffer.specs.declared.WriteAnswer.{WriteAnswer}
 use Rattle.buffer.specs.declared.WriteAnswer.the-variants.{Written, Refused}
 use Rattle.buffer.specs.Writes.{writeOf, bufferAfter, writeAnswer, Writes}
 use Rattle.writer.specs.Writer.{WritesRules, WritesCycle}
+use Rattle.writer.proofs.Room.{rules-room, cycle-room}
 use Rattle.notebook.specs.Notebook.{readAs, notebookOf}
 use Rattle.notebook.proofs.Replies.{accepted-texts}
-use Rattle.demands.specs.PrintBack.{WrittenWhole, ComesOut, PrintBack}
+use Rattle.demands.specs.PrintBack.{ComesOut, PrintBack}
+use Rattle.demands.proofs.Chains.{same}
 use Rattle.demands.proofs.Demand1.{demand1}
 
 -- ---- a text and a buffer
+
+-- a length is returned: the record is valid, and so many bytes are its text
+written : (valid : Bool) (text before after : List ℕ) (n : ℕ) → Writes valid text before after (Written n) → (valid ≡ true) × (take n after ≡ text)
+unfolding writeOf writeAnswer bufferAfter
+written valid text before after n w =
+    let v = required valid 11 _ n (sym (w .answers)) in
+    let room = required (leb (length text) (length before)) 15 _ n (v .1) in
+    let left : after ≡ text ++ drop n before = w .leaves ∙ ap (bufferAfter text before) (sym (w .answers)) in
+    (v .0, ap (take n) left ∙ take-at text (drop n before) n (of-of (room .1)))
 
 returned-length : (answer : WriteAnswer) (n : ℕ) → writeAnswer answer ≡ accepted n → answer ≡ Written n
 unfolding writeAnswer
 returned-length (Written m) n e = ap Written (of-of e)
 returned-length (Refused cause) n e = absurd (no-of e)
 
-module _ (valid : Bool) (text before after : List ℕ) where
-  -- a returned length: the record is valid, and so many bytes are the text
-  written : (n : ℕ) → Writes valid text before after (Written n) → (valid ≡ true) × (take n after ≡ text)
-  unfolding writeOf writeAnswer bufferAfter
-  written n w =
-      let v = required valid 11 _ n (sym (w .answers)) in
-      let room = required (leb (length text) (length before)) 15 _ n (v .1) in
-      let left = w .leaves ∙ ap (bufferAfter text before) (sym (w .answers)) in
-      (v .0, ap (take n) left ∙ take-at text (drop n before) n (of-of (room .1)))
+-- the text of a valid record
+comes-out : (valid : Bool) (text : List ℕ) → valid ≡ true → ComesOut text (Writes valid text)
+unfolding writeOf bufferAfter
+comes-out valid text v before after answer room w =
+    let e : writeOf valid text before ≡ accepted (length text) = passed 11 _ v ∙ passed 15 _ (le-leb (length text) (length before) room) in
+    record { returned = returned-length answer (length text) (w .answers ∙ e); left = w .leaves ∙ ap (bufferAfter text before) e }
 
-  -- a valid record, and room
-  written-whole : valid ≡ true → (answer : WriteAnswer) → length text ≤ length before → Writes valid text before after answer → WrittenWhole text before after answer
-  unfolding writeOf bufferAfter
-  written-whole v answer room w =
-      let e : writeOf valid text before ≡ accepted (length text) = passed 11 _ v ∙ passed 15 _ (le-leb (length text) (length before) room) in
-      record { returned = returned-length answer (length text) (w .answers ∙ e); left = w .leaves ∙ ap (bufferAfter text before) e }
+-- a buffer that has room is not too short
+never-short : (valid : Bool) (text buffer : List ℕ) → (valid ≡ true → length text ≤ length buffer) → writeOf valid text buffer ≡ refused 15 → ⊥
+unfolding writeOf require _>>_
+never-short false text buffer room e =
+    let z = same e in
+    omega arith
+never-short true text buffer room e = no-of (sym (rw (le-leb (length text) (length buffer) (room refl)) at e))
 
 -- ---- a written text, read
 
@@ -85,15 +95,7 @@ cycle-back r before after n read w h =
 
 -- ---- an accepted text, written again
 
-rules-out : (text : List ℕ) (t : Table) → validTable t ≡ true → rulesText (rulesOf t) ≡ text → ComesOut text (WritesRules t)
-rules-out text t v e before after answer room w =
-    written-whole (validTable t) text before after v answer room (subst (λ (s : List ℕ). Writes (validTable t) s before after answer) e w)
-
-cycle-out : (text : List ℕ) (r : Run) → validRun r ≡ true → eventsText (eventsOf r) ≡ text → ComesOut text (WritesCycle r)
-cycle-out text r v e before after answer room w =
-    written-whole (validRun r) text before after v answer room (subst (λ (s : List ℕ). Writes (validRun r) s before after answer) e w)
-
--- the table of an accepted text
+-- of the table of its rules
 module _ (text : List ℕ) (rs : List Rule) (read : rulesTextOf text ≡ All rs) where
   rules-valid : ValidRules rs
   rules-valid = rules-trips .valid text rs read .0
@@ -101,14 +103,19 @@ module _ (text : List ℕ) (rs : List Rule) (read : rulesTextOf text ≡ All rs)
   accepted-valid : validTable (tableOf rs) ≡ true
   accepted-valid = table-valid rs (rules-valid .most) (rules-valid .valid)
 
+  same-text : rulesText (rulesOf (tableOf rs)) ≡ text
+  same-text = ap rulesText (table-rules rs) ∙ rules-trips .again text rs read
+
   table-out : ComesOut text (WritesRules (tableOf rs))
-  table-out = rules-out text (tableOf rs) accepted-valid (ap rulesText (table-rules rs) ∙ rules-trips .again text rs read)
+  table-out = subst (λ (s : List ℕ). ComesOut s (WritesRules (tableOf rs))) same-text (comes-out _ _ accepted-valid)
 
--- a valid run with the events of an accepted text
+-- of a valid run with its events
 run-out : (text : List ℕ) (es : List Event) (r : Run) → cycleTextOf text ≡ All es → validRun r ≡ true → eventsOf r ≡ es → ComesOut text (WritesCycle r)
-run-out text es r read v e = cycle-out text r v (ap eventsText e ∙ cycle-trips .again text es read)
+run-out text es r read v e =
+    let same : eventsText (eventsOf r) ≡ text = ap eventsText e ∙ cycle-trips .again text es read in
+    subst (λ (s : List ℕ). ComesOut s (WritesCycle r)) same (comes-out _ _ v)
 
--- the run of two accepted texts
+-- two accepted texts, of the notebook's run
 module _ (rules cycle : List ℕ) (rs : List Rule) (es : List Event) (p : rulesTextOf rules ≡ All rs) (q : cycleTextOf cycle ≡ All es) where
   abbrev run : Run
   run = finishedRun (tableOf rs) (length es) (eventSlots es)
@@ -146,6 +153,8 @@ print-back =
     record {
       rules-read = rules-back;
       cycle-read = cycle-back;
+      rules-room = λ t buffer h e. never-short (validTable t) (rulesText (rulesOf t)) buffer (λ v. (let l = rules-room t v in omega arith)) e;
+      cycle-room = λ r buffer h e. never-short (validRun r) (eventsText (eventsOf r)) buffer (λ v. (let l = cycle-room r v in omega arith)) e;
       rules-again = rules-again;
       cycle-again = λ text read r h o v e. run-out text (take (read .count) (read .events)) r (accepted-events text read h o) v e;
       notebook-again = notebook-again;

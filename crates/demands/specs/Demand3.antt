@@ -29,6 +29,7 @@ use Rattle.run.specs.Takes.{grown, finished, RunOf, Takes}
 use Rattle.line.specs.Fields.{isByte}
 use Rattle.cycle_text.specs.Written.{eventsText}
 use Rattle.rule_text.specs.Written.{rulesText, rewritten}
+use Rattle.writer.specs.Writer.{rulesBytes, cycleBytes}
 use Rattle.notebook.specs.Notebook.{readAs, notebookOf}
 use Rattle.demands.specs.Demand2.{InCycle, StandsFulfilled, StandsViolated}
 
@@ -76,8 +77,8 @@ pub record Bytes (most : ℕ) (text : List ℕ) : Type 0 where
 -- gives the run r, and r answers as the grown run does after close
 pub record ReadBack (t : Table) (offered : List Event) (r : Run) : Type 0 where
   -- both fit the 32768 bytes of a file of `report`
-  pub rules-text : Bytes 2480 (rulesText (rulesOf t))
-  pub cycle-text : Bytes 15872 (eventsText (taken offered))
+  pub rules-text : Bytes rulesBytes (rulesText (rulesOf t))
+  pub cycle-text : Bytes cycleBytes (eventsText (taken offered))
   pub reply : notebookOf (rulesText (rulesOf t)) (eventsText (taken offered)) ≡ readAs r
   pub run : RunOf (rewritten t) (taken offered) true (finished (taken offered)) r
   pub cells : r .cells ≡ closedRun (grown t offered) .cells

@@ -8,6 +8,7 @@ use Prim.Native.Nat.{ℕ, _≤_}
 use lib.ListN.{length, take, drop}
 use Rattle.declare.specs.declared.Table.{Table}
 use Rattle.declare.specs.Slots.{eventSlots}
+use Rattle.declare.specs.Answers.{refused}
 use Rattle.run.specs.declared.Run.{Run}
 use Rattle.run.specs.Records.{eventsOf, validRun}
 use Rattle.line.specs.declared.Outcome.the-variants.{Accepted}
@@ -18,7 +19,7 @@ use Rattle.rule_text.specs.Written.{rewritten}
 use Rattle.rule_text.specs.Reads.{ReadsRules}
 use Rattle.buffer.specs.declared.WriteAnswer.{WriteAnswer}
 use Rattle.buffer.specs.declared.WriteAnswer.the-variants.{Written}
-use Rattle.writer.specs.Writer.{WritesRules, WritesCycle}
+use Rattle.writer.specs.Writer.{rulesBytes, cycleBytes, writeRulesOf, WritesRules, writeCycleOf, WritesCycle}
 use Rattle.notebook.specs.Notebook.{readAs, notebookOf}
 
 -- "with the length returned and the bytes beyond it untouched"
@@ -28,16 +29,16 @@ pub record WrittenWhole (text before after : List ℕ) (answer : WriteAnswer) : 
 
 -- a call with this contract writes the text, into every buffer that has room for it
 abbrev pub ComesOut : List ℕ → (List ℕ → List ℕ → WriteAnswer → Type 0) → Type 0
-ComesOut text Writes =
+ComesOut text Contract =
     (before after : List ℕ) (answer : WriteAnswer)
     → length text ≤ length before
-    → Writes before after answer
+    → Contract before after answer
     → WrittenWhole text before after answer
 
 -- proved as `print-back`
 pub record PrintBack : Type 0 where
-  -- "a written text reads back as the same records", equal in the slots that are in use: of the
-  -- bytes that are left the first n, for the returned length n
+  -- "a written text reads back as the same records", equal in the slots that are in use: the
+  -- first n bytes of the buffer, n the length returned
   pub rules-read : (t : Table) (before after : List ℕ) (n : ℕ) (read : RulesRead)
       → WritesRules t before after (Written n)
       → ReadsRules (take n after) read
@@ -46,6 +47,9 @@ pub record PrintBack : Type 0 where
       → WritesCycle r before after (Written n)
       → ReadsCycle (take n after) read
       → (read .outcome ≡ Accepted) × (read .count ≡ length (eventsOf r)) × (read .events ≡ eventSlots (eventsOf r))
+  -- a buffer of so many bytes is never too short
+  pub rules-room : (t : Table) (buffer : List ℕ) → rulesBytes ≤ length buffer → writeRulesOf t buffer ≡ refused 15 → ⊥
+  pub cycle-room : (r : Run) (buffer : List ℕ) → cycleBytes ≤ length buffer → writeCycleOf r buffer ≡ refused 15 → ⊥
   -- "an accepted text comes out again byte for byte": of the table read; of every valid run with
   -- the events read; and both texts of the notebook's run
   pub rules-again : (text : List ℕ) (read : RulesRead)

@@ -1,1 +1,1 @@
-// The three demands: definitions and theorems alone, in specs/ and proofs/.
+// The three demands and the cards: definitions and theorems alone, in specs/ and proofs/.

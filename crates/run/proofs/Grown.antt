@@ -35,7 +35,8 @@ use Rattle.run.specs.Takes.{grown, RunOf, finished}
 use Rattle.run.specs.Words.{Placed}
 use Rattle.run.proofs.Takes.{takes}
 
--- ---- the cells of a finished cycle: one in use has the verdict, every other is idle
+-- ---- the events of a finished cycle, and its cells: one in use has the verdict, every other is
+-- idle
 
 module _ (t : Table) (es : List Event) where
   size : length idleCells ≡ places

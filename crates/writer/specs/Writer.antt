@@ -12,6 +12,13 @@ use Rattle.rule_text.specs.Written.{rulesText}
 use Rattle.buffer.specs.declared.WriteAnswer.{WriteAnswer}
 use Rattle.buffer.specs.Writes.{writeOf, Writes}
 
+-- the bytes of the longest texts: 155 a rule, 62 an event
+abbrev pub rulesBytes : ℕ
+rulesBytes = 2480
+
+abbrev pub cycleBytes : ℕ
+cycleBytes = 15872
+
 -- the call write_rules: its answer, and what it leaves
 abbrev pub writeRulesOf : Table → List ℕ → Answer ℕ
 writeRulesOf t buffer = writeOf (validTable t) (rulesText (rulesOf t)) buffer

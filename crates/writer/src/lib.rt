@@ -14,10 +14,10 @@ mod comparison; // comparison.rt: comparisons
 mod condition; // condition.rt: conditions
 mod rule; // rule.rt: the lines of rules
 
-// The bytes of the longest texts: 155 a rule, 62 an event.
-const RULES_BYTES: usize = 2480;
+// The bytes of the longest texts: 155 a rule, 62 an event. Such a buffer is never too short.
+pub const RULES_BYTES: usize = 2480;
 
-const CYCLE_BYTES: usize = 15872;
+pub const CYCLE_BYTES: usize = 15872;
 
 // The rules of the table. Refused with 11 or 15.
 pub fn write_rules(table: Table, out: &mut [u8]) -> WriteAnswer

@@ -12,7 +12,7 @@ use lib.Seq.{set-split, drop-at, length-take-le, take-all}
 use Rattle.number.specs.Written.{digitsOf}
 use Rattle.number.proofs.Written.{digits-one, digits-more}
 use Rattle.number.proofs.Lengths.{digits-length}
-use Rattle.buffer.proofs.Puts.{puts-as, puts-length}
+use Rattle.buffer.proofs.Puts.{puts-as}
 use borrow.Author.Needs.{needs}
 use Rattle.buffer.proofs.numbers.put_number.Statement.{statement}
 use Rattle.buffer.proofs.numbers.put_number.Tie as tie

@@ -1,6 +1,5 @@
 -- `@`, the digit, `:`, k.
 use mathlib.Core.Path.{ap}
-use mathlib.Core.List.{_∷_, _++_}
 use lib.IntN.{ℤ}
 use mir.Syntax.{w32}
 use mir.Facts.{toZ-ofZ}

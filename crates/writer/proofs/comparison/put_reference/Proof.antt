@@ -3,11 +3,10 @@ use mathlib.Core.Path.{ap}
 use lib.IntN.{ℤ}
 use mir.Syntax.{w32}
 use mir.Facts.{toZ-ofZ}
-use borrow.Author.Needs.{sfits-of}
+use borrow.Author.Needs.{needs, sfits-of}
 use Rattle.declare.specs.declared.Reference.the-variants.{Constant, Activation}
 use Rattle.rule_text.specs.Written.{referenceText}
 use Rattle.buffer.proofs.Puts.{puts-as}
-use borrow.Author.Needs.{needs}
 use Rattle.writer.proofs.comparison.put_reference.Statement.{statement}
 use Rattle.writer.proofs.comparison.put_reference.Tie as tie
 

@@ -2,11 +2,10 @@
 use mathlib.Core.Path.{ap}
 use mir.Syntax.{w32}
 use mir.Facts.{toZ-ofZ}
-use borrow.Author.Needs.{sfits-of}
+use borrow.Author.Needs.{needs, sfits-of}
 use Rattle.number.specs.Written.{integerText}
 use Rattle.line.specs.Values.{readingText}
 use Rattle.buffer.proofs.Puts.{puts-as}
-use borrow.Author.Needs.{needs}
 use Rattle.writer.proofs.field.put_reading.Statement.{statement}
 use Rattle.writer.proofs.field.put_reading.Tie as tie
 
