@@ -1,5 +1,6 @@
 //! The inputs of the measurements, the same for both programs. src/main.rt of crate bench has the
 //! format.
+use std::fs;
 
 /// A small generator of numbers, so that the inputs are the same each time.
 struct Numbers(u64);
@@ -143,6 +144,13 @@ pub fn input(letter: &str, turns: &str, name: &str) -> String {
         out += &format!("{}\n{c}", c.len());
     }
     out
+}
+
+/// Writes the rules and the first cycle of a data set as the files that `report` reads.
+pub fn write_files(name: &str) {
+    let (rules, cycles) = texts(name);
+    fs::write("rules.tsv", rules).unwrap();
+    fs::write("cycle.tsv", &cycles[0]).unwrap();
 }
 
 /// How many rule-events one turn of `n` judges.

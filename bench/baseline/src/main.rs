@@ -2,11 +2,14 @@
 //! same checks.
 //!
 //! `baseline < INPUT` runs an input; `baseline data LETTER TURNS NAME` writes one;
-//! `baseline count NAME` says its rule-events. `baseline copying BYTES < INPUT` copies so many bytes
-//! before each call of a running cycle, and else does the same.
+//! `baseline count NAME` says its rule-events. `baseline copying BYTES < INPUT` copies so many
+//! bytes before each call of a running cycle, and else does the same. `baseline report` does what
+//! the program `report` does; `baseline files NAME` writes the two files that it reads.
 mod copies;
 mod data;
 mod judge;
+mod print;
+mod report;
 mod run;
 mod text;
 mod types;
@@ -233,6 +236,8 @@ fn main() {
     match words[..] {
         ["data", letter, turns, name] => print!("{}", data::input(letter, turns, name)),
         ["count", name] => print!("{}", data::rule_events(name)),
+        ["files", name] => data::write_files(name),
+        ["report"] => report::report(),
         ["copying", bytes] => print!("{}", work(&input(), bytes.parse().unwrap())),
         _ => print!("{}", work(&input(), 0)),
     }

@@ -165,17 +165,9 @@ impl Run {
         if !(1..=self.table.count).contains(&rule) {
             return Err(10);
         }
-        let mut t = Totals {
-            activations: 0,
-            fulfilled: 0,
-            violated: 0,
-            open: 0,
-        };
-        for s in &self.cells[(rule - 1) * 256..][..self.count] {
-            t.activations += (*s != Standing::Idle) as u16;
-            t.fulfilled += matches!(s, Standing::Fulfilled(_)) as u16;
-            t.violated += matches!(s, Standing::Violated(_)) as u16;
-            t.open += matches!(s, Standing::Open) as u16;
+        let mut t = NO_TOTALS;
+        for &s in &self.cells[(rule - 1) * 256..][..self.count] {
+            t.count(s);
         }
         Ok(t)
     }

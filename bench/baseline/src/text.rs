@@ -269,9 +269,9 @@ pub fn read_rules(text: &[u8]) -> Result<Table, (Cause, usize)> {
 
 /// The closed run of two texts, or the first refusal.
 #[inline(never)]
-pub fn read_notebook(rules: &[u8], cycle: &[u8]) -> Result<Run, (Cause, usize)> {
-    let table = read_rules(rules)?;
-    let read = read_cycle(cycle)?;
+pub fn read_notebook(rules: &[u8], cycle: &[u8]) -> Result<Run, (Which, Cause, usize)> {
+    let table = read_rules(rules).map_err(|(cause, line)| (Which::Rules, cause, line))?;
+    let read = read_cycle(cycle).map_err(|(cause, line)| (Which::Cycle, cause, line))?;
     let mut cells = [Standing::Idle; 4096];
     judge_cells(
         false,

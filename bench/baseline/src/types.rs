@@ -75,6 +75,13 @@ pub enum Standing {
 /// Why a call is refused: document 01's number.
 pub type Cause = u8;
 
+/// Which of the two texts is refused.
+#[derive(Clone, Copy, Debug)]
+pub enum Which {
+    Rules,
+    Cycle,
+}
+
 #[derive(Clone, Copy)]
 pub struct Totals {
     pub activations: u16,
@@ -120,6 +127,22 @@ pub const NO_RULE: Rule = Rule {
     condition: NO_CONDITION,
     correlation: NO_CONDITION,
 };
+
+pub const NO_TOTALS: Totals = Totals {
+    activations: 0,
+    fulfilled: 0,
+    violated: 0,
+    open: 0,
+};
+
+impl Totals {
+    pub fn count(&mut self, s: Standing) {
+        self.activations += (s != Standing::Idle) as u16;
+        self.fulfilled += matches!(s, Standing::Fulfilled(_)) as u16;
+        self.violated += matches!(s, Standing::Violated(_)) as u16;
+        self.open += matches!(s, Standing::Open) as u16;
+    }
+}
 
 impl Condition {
     pub fn used(&self) -> &[Comparison] {

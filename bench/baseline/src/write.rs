@@ -3,22 +3,28 @@ use crate::run::{valid_run, valid_table};
 use crate::types::*;
 
 /// A text under way.
-struct Text<const ROOM: usize> {
+pub struct Text<const ROOM: usize> {
     bytes: [u8; ROOM],
     length: usize,
 }
 
 impl<const ROOM: usize> Text<ROOM> {
-    fn new() -> Self {
+    pub fn new() -> Self {
         Text {
             bytes: [0; ROOM],
             length: 0,
         }
     }
 
-    fn byte(&mut self, byte: u8) {
+    pub fn byte(&mut self, byte: u8) {
         self.bytes[self.length] = byte;
         self.length += 1;
+    }
+
+    pub fn bytes(&mut self, bytes: &[u8]) {
+        let end = self.length + bytes.len();
+        self.bytes[self.length..end].copy_from_slice(bytes);
+        self.length = end;
     }
 
     fn number(&mut self, mut n: u32) {
@@ -32,9 +38,7 @@ impl<const ROOM: usize> Text<ROOM> {
             digits[first] = b'0' + (n % 10) as u8;
             n /= 10;
         }
-        let end = self.length + 10 - first;
-        self.bytes[self.length..end].copy_from_slice(&digits[first..]);
-        self.length = end;
+        self.bytes(&digits[first..]);
     }
 
     fn integer(&mut self, z: i32) {
@@ -44,7 +48,7 @@ impl<const ROOM: usize> Text<ROOM> {
         self.number(z.unsigned_abs());
     }
 
-    fn field(&mut self, n: u32, end: u8) {
+    pub fn field(&mut self, n: u32, end: u8) {
         self.number(n);
         self.byte(end);
     }
@@ -116,7 +120,7 @@ impl<const ROOM: usize> Text<ROOM> {
     }
 
     /// The text in front of the buffer, if that has room.
-    fn write(&self, out: &mut [u8]) -> Result<usize, Cause> {
+    pub fn write(&self, out: &mut [u8]) -> Result<usize, Cause> {
         let text = &self.bytes[..self.length];
         let front = out.get_mut(..text.len()).ok_or(15)?;
         front.copy_from_slice(text);

@@ -1,10 +1,12 @@
 -- Laws of `stored` and `placeAfter`: one text after another is put as the two together, and a text
 -- that has room stands whole.
 use mathlib.Core.Path.{_≡_, refl, sym, _∙_}
+use mathlib.Core.Bool.{Bool, true, false}
 use mathlib.Core.List.{List, [], _∷_, _++_, append-assoc}
 use Prim.Native.Nat.{ℕ, _+_, _≤_, _<_}
 use native.Mathlib.Omega.{arith}
-use borrow.Author.Tests.{lt-ltb, le-ltb}
+use borrow.Author.Tests.{lt-ltb, le-ltb, ltb-true}
+use lib.Dec.{ltb}
 use lib.ListN.{length, set, take, drop, length-set, length-append}
 use lib.Seq.{set-out, set-append-seam, take-append-seam}
 use Rattle.buffer.specs.Puts.{next, placeAfter, stored, Puts}
@@ -28,6 +30,19 @@ place-out : (room at : ℕ) (xs : List ℕ) → room ≤ at → placeAfter room 
 unfolding placeAfter
 place-out room at [] h = refl
 place-out room at (b ∷ xs) h = rw (next-out room at h) (place-out room at xs h)
+
+next-inside : (room at : ℕ) → at ≤ room → next room at ≤ room
+unfolding next
+next-inside room at h = go (ltb at room) refl
+  where
+    go : (t : Bool) → ltb at room ≡ t → next room at ≤ room
+    go true e = rw e (omega (arith, ltb-true at room e))
+    go false e = rw e h
+
+place-inside : (room at : ℕ) (xs : List ℕ) → at ≤ room → placeAfter room at xs ≤ room
+unfolding placeAfter
+place-inside room at [] h = h
+place-inside room at (b ∷ xs) h = place-inside room (next room at) xs (next-inside room at h)
 
 place-append : (room at : ℕ) (xs ys : List ℕ) → placeAfter room at (xs ++ ys) ≡ placeAfter room (placeAfter room at xs) ys
 unfolding placeAfter
@@ -107,8 +122,9 @@ puts-taken {xs} {l} h a =
     let e = puts-front h a in
     rw (e .0, e .1) (take-append-seam xs (drop (length xs) l))
 
-pub puts-within : {xs l m : List ℕ} {p : ℕ} → length xs ≤ length l → Puts xs l 0 m p → p ≤ length m
-puts-within h a =
+-- the place is never past the buffer's end
+pub puts-within : {xs l m : List ℕ} {p : ℕ} → Puts xs l 0 m p → p ≤ length m
+puts-within {xs} {l} a =
     let s = puts-length a in
-    let e = puts-front h a .1 in
-    omega arith
+    let e = a .ends in
+    omega (arith, place-inside (length l) 0 xs (omega arith))

@@ -22,7 +22,8 @@ use Rattle.declare.proofs.Answers.{of-of, through, required}
 use Rattle.line.proofs.Values.{number-written, number-read, reading-written, reading-read, lacks-number, lacks-reading}
 use Rattle.line.proofs.Lines.{all-numbered}
 use Rattle.line.proofs.Joined.{lacks}
-use Rattle.line.proofs.Texts.{Parted, Follow, text-written, text-back, accepted-records}
+use Rattle.line.specs.Texts.{Stop}
+use Rattle.line.proofs.Texts.{Parted, Follow, text-written, text-back, accepted-records, refused-line}
 use Rattle.cycle_text.specs.Types.{Event}
 use Rattle.cycle_text.specs.Cycle.{eventFieldCount, eventOf, inOrder, eventAfter, cycleTextOf}
 use Rattle.cycle_text.specs.Written.{eventFields, eventsText, RoundTrips}
@@ -106,6 +107,13 @@ cycle-more above fields e s h =
       formed = all-append wellFormed above (e ∷ []) (s .formed) (rw (read-formed fields e (a .line)));
       order = non-falling-parts 0 above (e ∷ []) ∙ rw (s .order, le-leb (lastTime above) (e .time) (a .order));
     }
+
+-- ---- a refused text
+
+-- no line below the 257th is looked at
+pub refused-at : (text : List ℕ) (n line : ℕ) → cycleTextOf text ≡ Stop n line → line ≤ mostEvents + 1
+unfolding cycleTextOf
+refused-at text n line e = refused-line eventAfter mostEvents (λ above fields r h. event-after above fields r h .room) text n line e
 
 -- ---- a line that is written
 

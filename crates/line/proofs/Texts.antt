@@ -4,19 +4,19 @@
 use mathlib.Core.Path.{_≡_, refl, sym, _∙_, ap}
 use mathlib.Core.Bool.{Bool, true, false}
 use mathlib.Core.List.{List, [], _∷_, _++_, append-nil, append-assoc}
-use Prim.Native.Nat.{ℕ, _+_, _<_}
+use Prim.Native.Nat.{ℕ, _+_, _≤_, _<_}
 use native.Mathlib.Omega.{arith}
 use native.Mathlib.Numerals.{add-one}
 use borrow.Author.Tests.{ltb-false}
 use lib.Dec.{ltb}
-use lib.ListN.{length, take, getD}
+use lib.ListN.{length, take, getD, length-append}
 use lib.Seq.{take-all, take-suc}
 use Rattle.declare.specs.Lists.{all}
 use Rattle.number.specs.Number.{none}
 use Rattle.line.specs.Types.{Outcome, Accepted, Refused}
 use Rattle.line.specs.Fields.{LF, tab, indexOf, before, following, split, eachAfter, joined}
 use Rattle.declare.specs.Answers.{Answer, accepted, refused, _>>=_}
-use Rattle.line.specs.Texts.{All, Stop, lineAfter, continued, linesOf, textOf, lineOf, writtenLine, writtenText, recordsRead}
+use Rattle.line.specs.Texts.{Records, All, Stop, lineAfter, continued, linesOf, textOf, lineOf, writtenLine, writtenText, recordsRead}
 use Rattle.line.proofs.Fields.{before-take, parts}
 use Rattle.line.proofs.Joined.{lacks, split-before, split-joined, lacks-joined, joined-split}
 
@@ -24,6 +24,9 @@ pub stop-all : {A : Type 0} {n line : ℕ} {rs : List A} → Stop n line ≡ All
 stop-all e =
     let z : _≡_ {A = ℕ} 0 1 = cc in
     omega arith
+
+stop-at : {A : Type 0} {m n at line : ℕ} → _≡_ {A = Records A} (Stop m at) (Stop n line) → at ≡ line
+stop-at e = cc
 
 pub all-all : {A : Type 0} {rs qs : List A} → All rs ≡ All qs → rs ≡ qs
 all-all e = cc
@@ -71,20 +74,28 @@ module _ {A : Type 0} (fieldsOf : A → List (List ℕ)) where
     pub tabs : all (lacks tab) (fieldsOf r) ≡ true
     pub ends : all (lacks LF) (fieldsOf r) ≡ true
 
-  split-fields : (fields : List (List ℕ)) → 0 < length fields → all (lacks tab) fields ≡ true → split tab (joined tab fields) ≡ fields
+  pub split-fields : (fields : List (List ℕ)) → 0 < length fields → all (lacks tab) fields ≡ true → split tab (joined tab fields) ≡ fields
   split-fields [] h l = absurd (omega arith)
   split-fields (p ∷ ps) h l = split-joined tab p ps l
 
-  split-line : (r : A) (s : List ℕ) → all (lacks LF) (fieldsOf r) ≡ true → split LF (writtenLine fieldsOf r ++ s) ≡ joined tab (fieldsOf r) ∷ split LF s
+  pub split-line : (r : A) (s : List ℕ) → all (lacks LF) (fieldsOf r) ≡ true → split LF (writtenLine fieldsOf r ++ s) ≡ joined tab (fieldsOf r) ∷ split LF s
   unfolding writtenLine
   split-line r s h =
       rw (append-assoc (joined tab (fieldsOf r)) (LF ∷ []) s) (split-before LF (joined tab (fieldsOf r)) s (lacks-joined LF tab (fieldsOf r) refl h))
 
-  written-snoc : (above : List A) (r : A) → writtenText fieldsOf (above ++ (r ∷ [])) ≡ writtenText fieldsOf above ++ writtenLine fieldsOf r
+  pub written-append : (xs ys : List A) → writtenText fieldsOf (xs ++ ys) ≡ writtenText fieldsOf xs ++ writtenText fieldsOf ys
   unfolding writtenText
-  written-snoc [] r = append-nil (writtenLine fieldsOf r)
-  written-snoc (q ∷ above) r =
-      ap (λ (k : List ℕ). writtenLine fieldsOf q ++ k) (written-snoc above r) ∙ sym (append-assoc (writtenLine fieldsOf q) (writtenText fieldsOf above) (writtenLine fieldsOf r))
+  written-append [] ys = refl
+  written-append (r ∷ xs) ys =
+      ap (λ (k : List ℕ). writtenLine fieldsOf r ++ k) (written-append xs ys) ∙ sym (append-assoc (writtenLine fieldsOf r) (writtenText fieldsOf xs) (writtenText fieldsOf ys))
+
+  pub written-one : (r : A) → writtenText fieldsOf (r ∷ []) ≡ writtenLine fieldsOf r
+  unfolding writtenText
+  written-one r = append-nil (writtenLine fieldsOf r)
+
+  written-snoc : (above : List A) (r : A) → writtenText fieldsOf (above ++ (r ∷ [])) ≡ writtenText fieldsOf above ++ writtenLine fieldsOf r
+  written-snoc above r =
+      written-append above (r ∷ []) ∙ ap (λ (k : List ℕ). writtenText fieldsOf above ++ k) (written-one r)
 
   -- the text of the first records, and one more
   pub written-taken : (rs : List A) (k : ℕ) (none : A) → k < length rs → writtenText fieldsOf (take (k + 1) rs) ≡ writtenText fieldsOf (take k rs) ++ writtenLine fieldsOf (getD rs k none)
@@ -141,6 +152,30 @@ module _ {A : Type 0} (recordOf : List A → List (List ℕ) → Answer A) where
   pub accepted-records : (P : List A → Type 0) → P [] → ((above : List A) (fields : List (List ℕ)) (r : A) → P above → recordOf above fields ≡ accepted r → P (above ++ (r ∷ []))) → (s : List ℕ) (rs : List A) → textOf recordOf s ≡ All rs → P rs
   unfolding textOf
   accepted-records P none step s rs e = kept P step [] (split LF s) rs none e
+
+  -- ---- the line of a refusal: below records of which there is room for one more
+
+  module _ (most : ℕ) (room : (above : List A) (fields : List (List ℕ)) (r : A) → recordOf above fields ≡ accepted r → length above < most) where
+    stops : (above : List A) (lines : List (List ℕ)) (n line : ℕ) → length above ≤ most → linesOf recordOf above lines ≡ Stop n line → line ≤ most + 1
+    unfolding linesOf continued lineAfter
+    stops above [] n line h e = absurd (stop-all (sym e))
+    stops above (last ∷ []) n line h e = go (none last) refl
+      where
+        go : (t : Bool) → none last ≡ t → line ≤ most + 1
+        go true p = absurd (stop-all (sym (rw p at e)))
+        go false p = omega (arith, stop-at (rw p at e))
+    stops above (first ∷ next ∷ more) n line h e =
+        go (recordOf above (split tab first)) refl (λ (r : A). stops (above ++ (r ∷ [])) (next ∷ more) n line)
+      where
+        go : (a : Answer A) → recordOf above (split tab first) ≡ a → ((r : A) → length (above ++ (r ∷ [])) ≤ most → linesOf recordOf (above ++ (r ∷ [])) (next ∷ more) ≡ Stop n line → line ≤ most + 1) → line ≤ most + 1
+        go (accepted r) p f =
+            let l = room above (split tab first) r p in
+            f r (rw (length-append above (r ∷ [])) (omega arith)) (rw p at e)
+        go (refused m) p f = omega (arith, stop-at (rw p at e))
+
+    pub refused-line : (s : List ℕ) (n line : ℕ) → textOf recordOf s ≡ Stop n line → line ≤ most + 1
+    unfolding textOf
+    refused-line s n line e = stops [] (split LF s) n line (omega arith) e
 
   module _ (fieldsOf : A → List (List ℕ)) where
     -- ---- a written text, read

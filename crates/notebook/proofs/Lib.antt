@@ -1,4 +1,5 @@
 -- The laws of the notebook.
 pub mod Tables
 pub mod Replies
+pub mod Read
 pub mod Words

@@ -23,12 +23,12 @@ use Rattle.number.proofs.Written.{integer-not-dash}
 use Rattle.line.specs.Fields.{LF, tab}
 use Rattle.declare.specs.Answers.{accepted, _>>=_, _>>_, require}
 use Rattle.line.specs.Values.{numberField, readingText}
-use Rattle.line.specs.Texts.{All, writtenLine, writtenText}
+use Rattle.line.specs.Texts.{All, Stop, writtenLine, writtenText}
 use Rattle.declare.proofs.Answers.{of-of, through, required}
 use Rattle.line.proofs.Values.{dash-text, number-written, number-read, lacks-number, lacks-reading}
 use Rattle.line.proofs.Lines.{all-numbered}
 use Rattle.line.proofs.Joined.{lacks}
-use Rattle.line.proofs.Texts.{Parted, Follow, text-written, text-back, accepted-records}
+use Rattle.line.proofs.Texts.{Parted, Follow, text-written, text-back, accepted-records, refused-line}
 use Rattle.rule_text.specs.Types.{End, Never, At, Rule, Table}
 use Rattle.rule_text.specs.Conditions.{comma, conditionField}
 use Rattle.rule_text.specs.Rules.{endField, isAbove, ruleFieldCount, ruleOf, inTable, ruleAfter, rulesTextOf}
@@ -190,6 +190,13 @@ accepted-more above fields r s h =
 accepted-text : (text : List ℕ) (rs : List Rule) → rulesTextOf text ≡ All rs → AcceptedRules rs
 unfolding rulesTextOf
 accepted-text text rs h = accepted-records ruleAfter AcceptedRules accepted-none accepted-more text rs h
+
+-- ---- a refused text
+
+-- no line below the 17th is looked at
+pub refused-at : (text : List ℕ) (n line : ℕ) → rulesTextOf text ≡ Stop n line → line ≤ mostRules + 1
+unfolding rulesTextOf
+refused-at text n line e = refused-line ruleAfter mostRules (λ above fields r h. rule-after above fields r h .room) text n line e
 
 -- ---- a line that is written
 

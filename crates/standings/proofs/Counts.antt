@@ -1,5 +1,5 @@
 -- Totals: one position more, their bounds, and their sum.
-use mathlib.Core.Path.{_≡_, refl, ap, ap₂, _∙_}
+use mathlib.Core.Path.{_≡_, refl, sym, ap, ap₂, _∙_}
 use mathlib.Core.Bool.{Bool, not}
 use mathlib.Core.List.{List}
 use Prim.Native.Nat.{ℕ, zero, suc, _+_, _-_, _≤_, _<_}
@@ -17,23 +17,43 @@ use Rattle.standings.specs.declared.Cell.{Cell}
 use Rattle.standings.specs.Places.{idleCell, standingFrom}
 use Rattle.standings.specs.declared.totals.Totals.{Totals}
 use Rattle.declare.proofs.Lists.{count-same}
-use Rattle.standings.specs.Totals.{positionsOf, totalsBy, withStanding}
+use Rattle.standings.specs.Totals.{positionsOf, totalsBy, noTotals, oneMore, withStanding}
 
-pub totals-none : (s : ℕ → Standing) → record { activations = 0; fulfilled = 0; violated = 0; «open» = 0 } ≡ totalsBy s 0
+pub totals-none : (s : ℕ → Standing) → noTotals ≡ totalsBy s 0
 unfolding totalsBy positionsOf countBelow
 totals-none s = refl
 
+one-more : (n : ℕ) → n < 65535 → oneMore n ≡ n + 1
+one-more n h = omega arith
+
+-- one position more, as long as 16 bits hold the counts
+totals-next : (s : ℕ → Standing) (n : ℕ) → n < 65535 → withStanding (totalsBy s n) (s (n + 1)) ≡ totalsBy s (suc n)
+unfolding totalsBy positionsOf countBelow withStanding
+totals-next s n h = go (s (n + 1)) refl
+  where
+    more : (p : Standing → Bool) → oneMore (countBelow (λ k. p (s (k + 1))) n) ≡ countBelow (λ k. p (s (k + 1))) n + 1
+    more p = one-more _ (let l = count-le (λ k. p (s (k + 1))) n in omega arith)
+
+    go : (x : Standing) → s (n + 1) ≡ x → withStanding (totalsBy s n) (s (n + 1)) ≡ totalsBy s (suc n)
+    go Idle e = rw e (simp add-zero)
+    go Open e = rw (e, more (λ x. not (isIdle x)), more isOpen) (simp add-zero)
+    go (Fulfilled j) e = rw (e, more (λ x. not (isIdle x)), more isFulfilled) (simp add-zero)
+    go (Violated j) e = rw (e, more (λ x. not (isIdle x)), more isViolated) (simp add-zero)
+
 -- one place more of a row
-next-place : (cells : List Cell) (first p : ℕ) → (getD cells (first + p) idleCell) .standing ≡ standingFrom cells first (p + 1)
+pub next-place : (cells : List Cell) (first p : ℕ) → (getD cells (first + p) idleCell) .standing ≡ standingFrom cells first (p + 1)
 unfolding standingFrom
 next-place cells first p = ap (λ (i : ℕ). (getD cells (first + i) idleCell) .standing) back
   where
     back : p ≡ p + 1 - 1
     back = omega arith
 
-pub totals-again : (cells : List Cell) (first p : ℕ) {t u : Totals} {s : Standing} → t ≡ totalsBy (standingFrom cells first) p → s ≡ (getD cells (first + p) idleCell) .standing → u ≡ withStanding t s → u ≡ totalsBy (standingFrom cells first) (p + 1)
-unfolding totalsBy positionsOf countBelow withStanding
-totals-again cells first p e h g = rw (add-one p) (g ∙ rw (e, h, next-place cells first p) refl)
+pub totals-again : (cells : List Cell) (first p : ℕ) {t u : Totals} {s : Standing} → p < 65535 → t ≡ totalsBy (standingFrom cells first) p → s ≡ (getD cells (first + p) idleCell) .standing → u ≡ withStanding t s → u ≡ totalsBy (standingFrom cells first) (p + 1)
+totals-again cells first p l e h g =
+    g
+    ∙ ap₂ withStanding e (h ∙ next-place cells first p)
+    ∙ totals-next (standingFrom cells first) p l
+    ∙ ap (totalsBy (standingFrom cells first)) (sym (add-one p))
 
 pub record Small (t : Totals) (n : ℕ) : Type 0 where
   pub activations : t .activations ≤ n
@@ -57,21 +77,14 @@ totals-same s u n f = rw (each (λ x. not (isIdle x)), each isFulfilled, each is
     each : (p : Standing → Bool) → countBelow (λ k. p (s (k + 1))) n ≡ countBelow (λ k. p (u (k + 1))) n
     each p = count-same (λ k. p (s (k + 1))) (λ k. p (u (k + 1))) n (λ k l. ap p (f (k + 1) (omega arith) (omega arith)))
 
--- idle positions count for nothing
-with-idle : (t : Totals) → withStanding t Idle ≡ t
-unfolding withStanding
-with-idle t = simp add-zero
-
-with-next : (s : ℕ → Standing) (k : ℕ) → totalsBy s (suc k) ≡ withStanding (totalsBy s k) (s (k + 1))
-unfolding totalsBy positionsOf countBelow withStanding
-with-next s k = refl
+-- an idle position counts for nothing
+with-idle : (s : ℕ → Standing) (k : ℕ) → s (k + 1) ≡ Idle → totalsBy s (suc k) ≡ totalsBy s k
+unfolding totalsBy positionsOf countBelow
+with-idle s k e = rw e (simp add-zero)
 
 pub totals-idle : (s : ℕ → Standing) (n m : ℕ) → n ≤ m → ((i : ℕ) → n < i → i ≤ m → s i ≡ Idle) → totalsBy s m ≡ totalsBy s n
 totals-idle s n m l f =
-    le-ind (λ (k : ℕ). k ≤ m → totalsBy s k ≡ totalsBy s n) (λ _. refl) (λ k a e b. next k (e (omega arith)) (f (k + 1) (omega arith) (omega arith))) m l (omega arith)
-  where
-    next : (k : ℕ) → totalsBy s k ≡ totalsBy s n → s (k + 1) ≡ Idle → totalsBy s (suc k) ≡ totalsBy s n
-    next k e i = with-next s k ∙ ap₂ withStanding e i ∙ with-idle (totalsBy s n)
+    le-ind (λ (k : ℕ). k ≤ m → totalsBy s k ≡ totalsBy s n) (λ _. refl) (λ k a e b. with-idle s k (f (k + 1) (omega arith) (omega arith)) ∙ e (omega arith)) m l (omega arith)
 
 bit-sum : (s : Standing) → bit (not (isIdle s)) ≡ bit (isFulfilled s) + bit (isViolated s) + bit (isOpen s)
 bit-sum Idle = refl

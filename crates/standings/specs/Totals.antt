@@ -1,8 +1,9 @@
 -- The totals of a rule, by its standings.
 use mathlib.Core.Bool.{Bool, not}
-use Prim.Native.Nat.{ℕ, _+_}
+use Prim.Native.Nat.{ℕ, _+_, _%_}
 use Rattle.declare.specs.declared.Standing.{Standing}
-use Rattle.declare.specs.Lists.{bit, countBelow}
+use Rattle.declare.specs.declared.Standing.the-variants.{Idle, Open, Fulfilled, Violated}
+use Rattle.declare.specs.Lists.{countBelow}
 use Rattle.declare.specs.Standings.{isIdle, isOpen, isFulfilled, isViolated}
 use Rattle.standings.specs.declared.totals.Totals.{Totals}
 
@@ -21,12 +22,21 @@ totalsBy s n =
       «open» = positionsOf isOpen s n;
     }
 
+-- ---- counted position by position
+
+abbrev pub noTotals : Totals
+noTotals = record { activations = 0; fulfilled = 0; violated = 0; «open» = 0 }
+
+-- one more, in the 16 bits that a total has
+abbrev pub oneMore : ℕ → ℕ
+oneMore n = (n + 1) % 65536
+
 -- the totals with one position more, which has the standing s
 unfoldable pub withStanding : Totals → Standing → Totals
-withStanding t s =
-    record {
-      activations = t .activations + bit (not (isIdle s));
-      fulfilled = t .fulfilled + bit (isFulfilled s);
-      violated = t .violated + bit (isViolated s);
-      «open» = t .«open» + bit (isOpen s);
-    }
+withStanding t Idle = t
+withStanding t Open =
+    record { activations = oneMore (t .activations); fulfilled = t .fulfilled; violated = t .violated; «open» = oneMore (t .«open») }
+withStanding t (Fulfilled j) =
+    record { activations = oneMore (t .activations); fulfilled = oneMore (t .fulfilled); violated = t .violated; «open» = t .«open» }
+withStanding t (Violated j) =
+    record { activations = oneMore (t .activations); fulfilled = t .fulfilled; violated = oneMore (t .violated); «open» = t .«open» }

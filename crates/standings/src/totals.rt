@@ -1,8 +1,8 @@
 // The totals of a rule: how many of its positions stand in each way.
 ghost use mathlib.Core.Path.{_≡_};
-ghost use Prim.Native.Nat.{_+_, _≤_, _<_};
+ghost use Prim.Native.Nat.{_+_, _≤_};
 ghost use Rattle.standings.specs.Places.{places, standingFrom, standingIn};
-ghost use Rattle.standings.specs.Totals.{withStanding, totalsBy};
+ghost use Rattle.standings.specs.Totals.{noTotals, oneMore, withStanding, totalsBy};
 use crate::Cell;
 use crate::PLACES;
 use crate::place::row_start;
@@ -18,29 +18,47 @@ pub struct Totals {
     pub open: u16,
 }
 
+// Of no positions.
+pub fn no_totals() -> Totals
+    ensures { λ r. ⌜ r ≡ noTotals ⌝ }
+{
+    Totals {
+        activations: 0,
+        fulfilled: 0,
+        violated: 0,
+        open: 0,
+    }
+}
+
+// One more, in 16 bits.
+fn one_more(n: u16) -> u16
+    ensures { λ r. ⌜ r ≡ oneMore n ⌝ }
+{
+    if n < 65535 { n + 1 } else { 0 }
+}
+
 // The totals of one position more, with the standing s.
-fn with_standing(t: Totals, s: Standing) -> Totals
-    requires { ⌜ (t .activations < 4096) × (t .fulfilled < 4096) × (t .violated < 4096) × (t .«open» < 4096) ⌝ }
+pub fn with_standing(t: Totals, s: Standing) -> Totals
     ensures { λ r. ⌜ r ≡ withStanding t s ⌝ }
 {
     match s {
         Standing::Idle => t,
         Standing::Open => Totals {
-            activations: t.activations + 1,
+            activations: one_more(t.activations),
             fulfilled: t.fulfilled,
             violated: t.violated,
-            open: t.open + 1,
+            open: one_more(t.open),
         },
         Standing::Fulfilled(_) => Totals {
-            activations: t.activations + 1,
-            fulfilled: t.fulfilled + 1,
+            activations: one_more(t.activations),
+            fulfilled: one_more(t.fulfilled),
             violated: t.violated,
             open: t.open,
         },
         Standing::Violated(_) => Totals {
-            activations: t.activations + 1,
+            activations: one_more(t.activations),
             fulfilled: t.fulfilled,
-            violated: t.violated + 1,
+            violated: one_more(t.violated),
             open: t.open,
         },
     }
@@ -51,12 +69,7 @@ fn totals_from(cells: [Cell; PLACES], first: usize, n: usize) -> Totals
     requires { ⌜ first + n ≤ places ⌝ }
     ensures { λ r. ⌜ r ≡ totalsBy (standingFrom cells first) n ⌝ }
 {
-    let mut t = Totals {
-        activations: 0,
-        fulfilled: 0,
-        violated: 0,
-        open: 0,
-    };
+    let mut t = no_totals();
     for p in 0..n {
         let c = cells[first + p];
         let s = c.standing;

@@ -1,3 +1,2 @@
--- The laws of lines and texts that are put into a buffer.
-pub mod Lines
+-- The text of a valid record has room in the local buffer.
 pub mod Room

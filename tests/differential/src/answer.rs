@@ -114,7 +114,7 @@ impl Answer {
         Ok(Answer { totals, ..head })
     }
 
-    /// The answer of `w` or `W`: bytes 8 to 15 are the length.
+    /// The answer of `w`, `W`, `v` or `p`: bytes 8 to 15 are the length.
     pub fn decode_written(bytes: &[u8]) -> Result<Answer, Wrong> {
         let mut read = Bytes::new(bytes);
         let head = head_of(&mut read)?;

@@ -2,7 +2,9 @@
 
 pub mod causes;
 pub mod notebook;
+pub mod printed;
 pub mod records;
+pub mod reported;
 pub mod reports;
 pub mod running;
 pub mod tally;

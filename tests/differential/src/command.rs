@@ -12,7 +12,7 @@ pub const LARGEST_TEXT: usize = 65_536;
 /// "A buffer is at most 65,536 bytes".
 pub const LARGEST_BUFFER: usize = 65_536;
 
-/// The buffer of `w` and `W` before the call: "a larger n is cut to 65,536. Each
+/// The buffer of a writing command before the call: "a larger n is cut to 65,536. Each
 /// of its bytes is 165".
 pub fn buffer_of(n: u64) -> Vec<u8> {
     vec![165; n.min(LARGEST_BUFFER as u64) as usize]
@@ -85,6 +85,15 @@ pub enum Command {
     WriteCycle {
         n: u64,
     },
+    WriteReport {
+        n: u64,
+    },
+    /// Into a buffer of `room` bytes.
+    PrintTexts {
+        rules: Vec<u8>,
+        cycle: Vec<u8>,
+        room: u32,
+    },
     DumpStandings,
     DumpRun,
     DumpTally,
@@ -114,6 +123,8 @@ impl Command {
             Command::Notebook { .. } => 'N',
             Command::WriteRules { .. } => 'w',
             Command::WriteCycle { .. } => 'W',
+            Command::WriteReport { .. } => 'v',
+            Command::PrintTexts { .. } => 'p',
             Command::DumpStandings => 'd',
             Command::DumpRun => 'D',
             Command::DumpTally => 'B',
@@ -137,7 +148,9 @@ impl Command {
     fn texts(&self) -> Vec<&[u8]> {
         match self {
             Command::ReadRules(text) | Command::ReadCycle(text) => vec![text],
-            Command::Notebook { rules, cycle } => vec![rules, cycle],
+            Command::Notebook { rules, cycle } | Command::PrintTexts { rules, cycle, .. } => {
+                vec![rules, cycle]
+            }
             _ => Vec::new(),
         }
     }
@@ -157,7 +170,13 @@ impl Command {
             Command::Notebook { rules, cycle } => {
                 fields.p(rules.len() as u32).q(cycle.len() as u32)
             }
-            Command::WriteRules { n } | Command::WriteCycle { n } => fields.n(*n),
+            Command::WriteRules { n } | Command::WriteCycle { n } | Command::WriteReport { n } => {
+                fields.n(*n)
+            }
+            Command::PrintTexts { rules, cycle, room } => {
+                let fields = fields.p(rules.len() as u32).q(cycle.len() as u32);
+                fields.r(1, *room as i32)
+            }
             _ => self.table_fields(fields),
         }
     }
@@ -207,6 +226,10 @@ impl fmt::Display for Command {
             Command::Notebook { rules, cycle } => {
                 let (rules, cycle) = (rules.escape_ascii(), cycle.escape_ascii());
                 write!(f, "\"{rules}\" \"{cycle}\"")
+            }
+            Command::PrintTexts { rules, cycle, room } => {
+                let (rules, cycle) = (rules.escape_ascii(), cycle.escape_ascii());
+                write!(f, "\"{rules}\" \"{cycle}\" into {room} bytes")
             }
             other => write!(f, "{other:?}"),
         }
@@ -365,6 +388,7 @@ mod tests {
         assert_eq!(encoded(Command::Absorb { rule: count }), bytes(b'b', &n));
         assert_eq!(encoded(Command::WriteRules { n: count }), bytes(b'w', &n));
         assert_eq!(encoded(Command::WriteCycle { n: count }), bytes(b'W', &n));
+        assert_eq!(encoded(Command::WriteReport { n: count }), bytes(b'v', &n));
         let (rule, position) = (0x0506_0708, 0x0102_0304);
         let standing = Command::Standing { rule, position };
         assert_eq!(encoded(standing), bytes(b'g', &n));
@@ -487,6 +511,16 @@ mod tests {
         assert_eq!(encoded(Command::ReadCycle(cycle.clone())), expected);
         let read = bytes(b'N', &[(8, &[5]), (12, &[44, 1])]);
         let expected = [read, rules.clone(), cycle.clone()].concat();
-        assert_eq!(encoded(Command::Notebook { rules, cycle }), expected);
+        let notebook = Command::Notebook {
+            rules: rules.clone(),
+            cycle: cycle.clone(),
+        };
+        assert_eq!(encoded(notebook), expected);
+        let room = 0xFEDC_BA98;
+        let placed: [(usize, &[u8]); 3] =
+            [(8, &[5]), (12, &[44, 1]), (16, &[0x98, 0xBA, 0xDC, 0xFE])];
+        let expected = [bytes(b'p', &placed), rules.clone(), cycle.clone()].concat();
+        let command = Command::PrintTexts { rules, cycle, room };
+        assert_eq!(encoded(command), expected);
     }
 }

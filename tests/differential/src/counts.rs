@@ -126,6 +126,8 @@ impl fmt::Display for Counts {
             ('N', "pairs of texts"),
             ('w', "writes of rules"),
             ('W', "writes of events"),
+            ('v', "reports of runs"),
+            ('p', "prints of two texts"),
         ];
         for (letter, name) in names {
             let calls = self.calls(letter);

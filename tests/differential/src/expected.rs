@@ -12,7 +12,7 @@ use std::fmt::Debug;
 pub enum Expected {
     /// The answer of a call.
     Answer(Answer),
-    /// The answer of `w` or `W`, and all bytes of the buffer.
+    /// The answer of `w`, `W`, `v` or `p`, and all bytes of the buffer.
     Written { answer: Answer, buffer: Vec<u8> },
     /// The dump `d`: the standings of each rule at the taken positions. The
     /// template codes are for counting.

@@ -23,7 +23,20 @@ impl Report {
         command
             .current_dir(folder)
             .stdin(Stdio::null())
-            .stdout(Stdio::piped());
+            .stdout(Stdio::piped())
+            .stderr(Stdio::piped());
+        command
+    }
+
+    /// The same after a line for the shell, which can have a signal ignored.
+    fn command_after(&self, line: &str, folder: &Path) -> Command {
+        let mut command = Command::new("bash");
+        command
+            .args(["-c", &format!("{line}; exec \"$0\"")])
+            .arg(&self.path)
+            .current_dir(folder)
+            .stdin(Stdio::null())
+            .stderr(Stdio::piped());
         command
     }
 
@@ -31,6 +44,21 @@ impl Report {
     pub fn printed(&self, folder: &Path) -> Result<Vec<u8>, String> {
         let output = self.command(folder).output();
         ended(output.map_err(|error| error.to_string())?)
+    }
+
+    /// What it says on standard error if its standard output goes there.
+    pub fn said(&self, folder: &Path, output: impl Into<Stdio>) -> Result<Vec<u8>, String> {
+        said_by(self.command(folder).stdout(output))
+    }
+
+    /// The same after a line for the shell.
+    pub fn said_after(
+        &self,
+        line: &str,
+        folder: &Path,
+        output: impl Into<Stdio>,
+    ) -> Result<Vec<u8>, String> {
+        said_by(self.command_after(line, folder).stdout(output))
     }
 
     /// What it prints, if it ends within a time limit. What it prints has to
@@ -59,10 +87,25 @@ fn ends_within(child: &mut Child, limit: Duration) -> bool {
     false
 }
 
-/// Document 01 names no status, so each one will do; a signal will not.
+fn said_by(command: &mut Command) -> Result<Vec<u8>, String> {
+    let output = command.output().map_err(|error| error.to_string())?;
+    without_signal(&output)?;
+    Ok(output.stderr)
+}
+
+/// It has nothing to say on standard error if all could be printed.
 fn ended(output: Output) -> Result<Vec<u8>, String> {
+    without_signal(&output)?;
+    match output.stderr.is_empty() {
+        true => Ok(output.stdout),
+        false => Err(format!("it said: {}", output.stderr.escape_ascii())),
+    }
+}
+
+/// Document 01 names no status, so each one will do; a signal will not.
+fn without_signal(output: &Output) -> Result<(), String> {
     match output.status.code() {
-        Some(_) => Ok(output.stdout),
+        Some(_) => Ok(()),
         None => Err(format!("it ended with {}", output.status)),
     }
 }

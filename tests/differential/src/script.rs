@@ -4,9 +4,10 @@ use crate::answer::Answer;
 use crate::command::{buffer_of, Command};
 use crate::expected::Expected;
 use evaluator::slots::{COMPARISON_SLOTS, RULE_SLOTS};
-use evaluator::{absorb, notebook_record, place, read_cycle, read_rules, start};
-use evaluator::{write_cycle_of, write_rules_of, Comparison, ConditionSlot, Event, Operator};
-use evaluator::{Record, Refusal, Rule, RuleSlot, Standing, TableRecord, Tally, Text};
+use evaluator::{absorb, notebook_record, place, print_texts, read_cycle, read_rules, start};
+use evaluator::{write_cycle_of, write_report_of, write_rules_of};
+use evaluator::{Comparison, ConditionSlot, Event, Operator, Record, Refusal};
+use evaluator::{Rule, RuleSlot, Standing, TableRecord, Tally, Text};
 
 /// A command and what it has to answer, if it answers.
 #[derive(Debug, Clone)]
@@ -319,6 +320,28 @@ impl Session {
         let mut buffer = buffer_of(n);
         let answer = write_cycle_of(&self.run, &mut buffer);
         self.ask_written(Command::WriteCycle { n }, answer, buffer);
+        answer
+    }
+
+    /// Writes the report of the run into n bytes.
+    pub fn write_report(&mut self, n: u64) -> Result<usize, Refusal> {
+        let mut buffer = buffer_of(n);
+        let answer = write_report_of(&self.run, &mut buffer);
+        self.ask_written(Command::WriteReport { n }, answer, buffer);
+        answer
+    }
+
+    /// Prints two texts into a buffer of `room` bytes.
+    pub fn print_texts(
+        &mut self,
+        rules: Vec<u8>,
+        cycle: Vec<u8>,
+        room: u32,
+    ) -> Result<usize, Refusal> {
+        let mut buffer = buffer_of(u64::from(room));
+        let answer = print_texts(&rules, &cycle, &mut buffer);
+        let command = Command::PrintTexts { rules, cycle, room };
+        self.ask_written(command, answer, buffer);
         answer
     }
 

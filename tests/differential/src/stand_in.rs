@@ -9,7 +9,10 @@ use evaluator::{absorb, notebook_record, place, read_cycle, read_rules, start, v
 use evaluator::{Comparison, ConditionSlot, Event, Operator, Record, Reference, Refusal};
 use evaluator::{RuleSlot, Standing, TableRecord, Tally, Text};
 
+mod printed;
 mod written;
+
+use written::Source;
 
 /// A mistake to be found.
 #[derive(Debug, Clone, Copy, PartialEq, Eq)]
@@ -61,12 +64,36 @@ pub enum Mistake {
     WritesUncheckedStandings,
     /// The rules of the run are written, not those under construction.
     WritesTheRunsRules,
+    /// The byte after a written text becomes 0.
+    EndsWithZero,
+    /// A report has F for V and V for F.
+    SwapsVerdicts,
+    /// An activation is printed with the target of the one below it.
+    PrintsTheNextTarget,
+    /// The total of a rule is printed above its activations.
+    PrintsTotalsFirst,
+    /// A rule without activations has no total.
+    LeavesOutIdleRules,
+    /// A refused line names the other text.
+    NamesTheOtherText,
+    /// An open activation is printed as V.
+    PrintsOpenAsViolated,
+    /// A printed total counts the decided activations alone.
+    PrintsTotalsWithoutOpen,
+    /// The report of a run that is not closed is refused with 9.
+    ReportsClosedAlone,
+    /// A report is printed whatever the standings past the count are.
+    ReportsUncheckedStandings,
+    /// A text above 32768 bytes is printed as a file of that size is.
+    PrintsLargeTextsAs13,
+    /// A print of two texts leaves the notebook's run.
+    PrintsIntoTheRun,
     /// The last four bytes of the answers are missing.
     EndsEarly,
 }
 
 impl Mistake {
-    pub const ALL: [Mistake; 24] = [
+    pub const ALL: [Mistake; 36] = [
         Mistake::NeverOpen,
         Mistake::JudgesAnew,
         Mistake::ClearsRows,
@@ -90,6 +117,18 @@ impl Mistake {
         Mistake::WritesRefused,
         Mistake::WritesUncheckedStandings,
         Mistake::WritesTheRunsRules,
+        Mistake::EndsWithZero,
+        Mistake::SwapsVerdicts,
+        Mistake::PrintsTheNextTarget,
+        Mistake::PrintsTotalsFirst,
+        Mistake::LeavesOutIdleRules,
+        Mistake::NamesTheOtherText,
+        Mistake::PrintsOpenAsViolated,
+        Mistake::PrintsTotalsWithoutOpen,
+        Mistake::ReportsClosedAlone,
+        Mistake::ReportsUncheckedStandings,
+        Mistake::PrintsLargeTextsAs13,
+        Mistake::PrintsIntoTheRun,
         Mistake::EndsEarly,
     ];
 }
@@ -211,10 +250,13 @@ impl State {
                 self.read_text(read.b(0), text);
                 rest
             }
-            b'N' => {
+            b'N' | b'p' => {
                 let (rules, rest) = after.split_at(read.p() as usize);
                 let (cycle, rest) = rest.split_at(read.q() as usize);
-                self.notebook(rules, cycle);
+                match read.b(0) {
+                    b'N' => self.notebook(rules, cycle),
+                    _ => self.print(rules, cycle, read.r(1)),
+                }
                 rest
             }
             b't' | b'r' | b'n' | b'c' => {
@@ -316,7 +358,9 @@ impl State {
                 }
                 self.answer(answer.err(), [0; 12]);
             }
-            b'w' | b'W' => self.write(read.b(0), read.n()),
+            b'w' => self.write(Source::Rules, read.n()),
+            b'W' => self.write(Source::Cycle, read.n()),
+            b'v' => self.write(Source::Report, read.n()),
             other => panic!("{} is no command", char::from(other)),
         }
     }

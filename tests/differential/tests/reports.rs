@@ -1,10 +1,12 @@
-//! The program `report`: what it prints, byte for byte.
+//! The program `report`: what it prints, byte for byte, with nothing on standard
+//! error, and that it says there if it could not print in full.
 
 use differential::cases::reports::{compare, files, texts_of, File};
 use differential::folder::Folder;
 use differential::report::Report;
 use evaluator::random::Random;
 use evaluator::report;
+use std::fs;
 use std::process::Command;
 use std::time::Duration;
 
@@ -158,6 +160,76 @@ fn the_cycle_is_not_touched_when_the_rules_are_refused() {
         assert!(made.expect("the program mkfifo").success());
         let found = program.printed_within(&folder.path, Duration::from_secs(20));
         assert_eq!(found, Ok(report(rules.bytes(), None)), "{rules:?}");
+        folder.remove();
+    }
+}
+
+/// A folder with two texts.
+fn folder_with(rules: &str, cycle: &str) -> Folder {
+    let folder = Folder::new();
+    text(rules).put(&folder.path, "rules.tsv");
+    text(cycle).put(&folder.path, "cycle.tsv");
+    folder
+}
+
+/// Two texts with verdicts of a few lines, with the most lines, and with a
+/// refused line.
+fn texts_that_print() -> [(String, String); 3] {
+    let (rules, cycle) = ("2\t1\t1\t0\t-\t-\t-\n", "0\t1\t-\t-\t-\t-\n");
+    [
+        (RULES.to_string(), CYCLE.to_string()),
+        (rules.repeat(16), cycle.repeat(256)),
+        ("x".to_string(), CYCLE.to_string()),
+    ]
+}
+
+/// /dev/full takes no byte. Where nothing is printed, nothing is lost.
+#[test]
+fn a_full_device_is_complained_of() {
+    let program = Report::find();
+    let full = || fs::OpenOptions::new().write(true).open("/dev/full");
+    let said = |rules: &str, cycle: &str| {
+        let folder = folder_with(rules, cycle);
+        let said = program.said(&folder.path, full().expect("the device"));
+        folder.remove();
+        said.expect("an end without a signal")
+    };
+    for (rules, cycle) in texts_that_print() {
+        assert!(!said(&rules, &cycle).is_empty(), "{rules:?}");
+    }
+    assert_eq!(said("", CYCLE), b"");
+}
+
+/// A pipe that nobody reads, with the signal ignored that it gives.
+#[test]
+fn a_pipe_without_a_reader_is_complained_of() {
+    let program = Report::find();
+    for (rules, cycle) in texts_that_print() {
+        let (reader, writer) = std::io::pipe().expect("a pipe");
+        drop(reader);
+        let folder = folder_with(&rules, &cycle);
+        let said = program.said_after("trap '' PIPE", &folder.path, writer);
+        assert!(said.is_ok_and(|said| !said.is_empty()), "{rules:?}");
+        folder.remove();
+    }
+}
+
+/// A file that may have 1024 bytes takes the first of what is printed, and only
+/// what does not fit is complained of.
+#[test]
+fn a_file_that_takes_a_part_is_complained_of() {
+    let program = Report::find();
+    let limit = "ulimit -f 1; trap '' XFSZ";
+    for (rules, cycle) in texts_that_print() {
+        let folder = folder_with(&rules, &cycle);
+        let path = folder.path.join("printed");
+        let file = fs::File::create(&path).expect("a file");
+        let said = program.said_after(limit, &folder.path, file);
+        let said = said.expect("an end without a signal");
+        let expected = report(text(&rules).bytes(), text(&cycle).bytes());
+        let taken = fs::read(&path).expect("what was printed");
+        assert_eq!(taken, expected[..expected.len().min(1024)]);
+        assert_eq!(said.is_empty(), expected.len() <= 1024, "{rules:?}");
         folder.remove();
     }
 }

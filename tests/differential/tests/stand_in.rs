@@ -1,7 +1,8 @@
 //! The comparison itself: it agrees with the evaluator behind `probe`'s
 //! commands, and each kind of cases finds the mistakes that are put there.
 
-use differential::cases::{causes, notebook, records, running, tally, texts, written};
+use differential::cases::{causes, notebook, printed, records, reported, running};
+use differential::cases::{tally, texts, written};
 use differential::compare::compare;
 use differential::script::Case;
 use differential::stand_in::{Mistake, StandIn};
@@ -67,6 +68,26 @@ fn written_cause_cases() -> Vec<Case> {
     causes.chain(allowed).collect()
 }
 
+fn reported_cases() -> Vec<Case> {
+    (1..=60).map(reported::case).collect()
+}
+
+fn reported_grown_cases() -> Vec<Case> {
+    (1..=20).map(reported::grown_case).collect()
+}
+
+fn reported_cause_cases() -> Vec<Case> {
+    let causes = (0..).zip(causes::causes(true)).step_by(9);
+    let causes = causes.map(|(number, (_, run))| reported::cause_case(number, run));
+    let allowed = (0..).zip(causes::allowed(false)).step_by(9);
+    let allowed = allowed.map(|(number, (_, run))| reported::allowed_case(number, run));
+    causes.chain(allowed).collect()
+}
+
+fn printed_cases() -> Vec<Case> {
+    (1..=200).map(printed::case).collect()
+}
+
 #[test]
 fn the_evaluator_agrees_with_itself() {
     let program = StandIn {
@@ -86,11 +107,15 @@ fn the_evaluator_agrees_with_itself() {
         written_grown_cases(),
         written_again_cases(),
         written_cause_cases(),
+        reported_cases(),
+        reported_grown_cases(),
+        reported_cause_cases(),
+        printed_cases(),
     ];
     let counts = compare(&program, cases.concat());
     let counts = counts.unwrap_or_else(|difference| panic!("{difference}"));
-    assert!(counts.cases > 600, "{counts}");
-    for letter in ['s', 'e', 'x', 'g', 'o', 'b', 'R', 'Y', 'N', 'w', 'W'] {
+    assert!(counts.cases > 900, "{counts}");
+    for letter in "sexgobRYNwWvp".chars() {
         let accepted = counts.answered(letter, 0);
         assert!(accepted > 0 && counts.calls(letter) > accepted, "{letter}");
     }
@@ -99,7 +124,7 @@ fn the_evaluator_agrees_with_itself() {
 /// A mistake, and the cases that have to find it.
 type Finder = (Mistake, fn() -> Vec<Case>);
 
-const FINDERS: [Finder; 36] = [
+const FINDERS: [Finder; 68] = [
     (Mistake::NeverOpen, running_cases),
     (Mistake::JudgesAnew, stale_cases),
     (Mistake::ClearsRows, record_cases),
@@ -135,6 +160,38 @@ const FINDERS: [Finder; 36] = [
     (Mistake::WritesUncheckedStandings, written_cases),
     (Mistake::WritesUncheckedStandings, written_cause_cases),
     (Mistake::WritesTheRunsRules, written_cases),
+    (Mistake::ZeroesTheRest, reported_cases),
+    (Mistake::ZeroesTheRest, printed_cases),
+    (Mistake::AnswersTheRoom, reported_cases),
+    (Mistake::AnswersTheRoom, printed_cases),
+    (Mistake::RefusesTheExactLength, reported_cases),
+    (Mistake::RefusesTheExactLength, printed_cases),
+    (Mistake::ShortFirst, reported_cases),
+    (Mistake::ShortFirst, reported_cause_cases),
+    (Mistake::ShortWithLine, reported_cases),
+    (Mistake::ShortWithLine, printed_cases),
+    (Mistake::WritesRefused, reported_cases),
+    (Mistake::WritesRefused, printed_cases),
+    (Mistake::EndsWithZero, written_cases),
+    (Mistake::EndsWithZero, reported_cases),
+    (Mistake::EndsWithZero, printed_cases),
+    (Mistake::SwapsVerdicts, reported_cases),
+    (Mistake::SwapsVerdicts, printed_cases),
+    (Mistake::PrintsTheNextTarget, reported_cases),
+    (Mistake::PrintsTheNextTarget, printed_cases),
+    (Mistake::PrintsTotalsFirst, reported_cases),
+    (Mistake::PrintsTotalsFirst, printed_cases),
+    (Mistake::LeavesOutIdleRules, reported_cases),
+    (Mistake::LeavesOutIdleRules, printed_cases),
+    (Mistake::NamesTheOtherText, printed_cases),
+    (Mistake::PrintsOpenAsViolated, reported_cases),
+    (Mistake::PrintsOpenAsViolated, reported_grown_cases),
+    (Mistake::PrintsTotalsWithoutOpen, reported_cases),
+    (Mistake::PrintsTotalsWithoutOpen, reported_grown_cases),
+    (Mistake::ReportsClosedAlone, reported_cases),
+    (Mistake::ReportsUncheckedStandings, reported_cause_cases),
+    (Mistake::PrintsLargeTextsAs13, printed_cases),
+    (Mistake::PrintsIntoTheRun, printed_cases),
     (Mistake::EndsEarly, running_cases),
 ];
 

@@ -20,9 +20,11 @@
 //!   [`start`], take, close, standing and totals.
 //! - [`text`]: the readers and writers of the two texts.
 //! - [`written`]: [`write_rules_of`] and [`write_cycle_of`] write the texts of a
-//!   table and of a run into a lent buffer.
+//!   table and of a run into a lent buffer, [`write_report_of`] and
+//!   [`print_texts`] what `report` prints for a run and for two texts.
 //! - [`mod@notebook`]: [`notebook()`] judges two texts.
-//! - [`mod@report`]: [`report()`] gives the bytes that the program prints.
+//! - [`mod@report`]: [`report()`] gives the bytes that the program prints for two
+//!   files, [`printed`] those for two texts, [`report_of`] those for a run.
 //! - [`tally`]: [`absorb`] adds a closed run to a [`Tally`].
 //!
 //! Generators of test cases, all from a seed:
@@ -57,9 +59,9 @@ pub use model::{is_cycle, Comparison, Event, Operator, Reference, Rule, Standing
 pub use notebook::{notebook, notebook_record, Text};
 pub use record::{grown, place, start, Record, Totals};
 pub use refusal::Refusal;
-pub use report::report;
+pub use report::{printed, report, report_of};
 pub use slots::{ConditionSlot, EventSlot, RuleSlot, TableRecord};
 pub use tally::{absorb, Tally};
 pub use text::{read_cycle, read_rules, write_cycle, write_rules};
 pub use verdict::{eligible, is_activation, suits, verdict, verdicts};
-pub use written::{write_cycle_of, write_rules_of};
+pub use written::{print_texts, write_cycle_of, write_report_of, write_rules_of};

@@ -3,12 +3,14 @@
 use std::fs;
 use std::path::{Path, PathBuf};
 
-/// A folder's two texts; one that is absent or no file is `None`.
+/// A folder's two texts, of which one that is absent or no file is `None`, and
+/// what `report` prints there.
 #[derive(Debug, Clone, PartialEq, Eq)]
 pub struct Stored {
     pub folder: PathBuf,
     pub rules: Option<Vec<u8>>,
     pub cycle: Option<Vec<u8>>,
+    pub stdout: Vec<u8>,
 }
 
 /// The texts of every folder, those of tests/cases first.
@@ -30,6 +32,7 @@ fn texts_of(folder: PathBuf) -> Stored {
     Stored {
         rules: fs::read(folder.join("rules.tsv")).ok(),
         cycle: fs::read(folder.join("cycle.tsv")).ok(),
+        stdout: fs::read(folder.join("stdout")).expect("what is printed"),
         folder,
     }
 }

@@ -28,16 +28,10 @@ put-events-requires : tie.Need-put-events-requires
 put-events-requires c κs = valid-parts _ (past-valid (c .before .before)) .events-fit
 
 array-share-prefix-text : tie.Need-array-share-prefix-text
-unfolding eventsOf
-array-share-prefix-text c =
-    let put = c .before in
-    puts-within (cycle-room _ (past-valid (put .before .before .before))) (put .put-events .ensures)
+array-share-prefix-text c = puts-within (c .before .put-events .ensures)
 
 slice-aggregate-write : tie.Need-slice-aggregate-write
-unfolding eventsOf
-slice-aggregate-write c =
-    let put = c .before .before in
-    sym (length-take-le _ _ (puts-within (cycle-room _ (past-valid (put .before .before .before))) (put .put-events .ensures)))
+slice-aggregate-write c = sym (length-take-le _ _ (puts-within (c .before .before .put-events .ensures)))
 
 write-requires : tie.Need-write-requires
 write-requires c κs = search needs

@@ -28,16 +28,10 @@ put-rules-requires : tie.Need-put-rules-requires
 put-rules-requires c κs = rules-within _ (past-valid (c .before .before))
 
 array-share-prefix-text : tie.Need-array-share-prefix-text
-unfolding rulesOf
-array-share-prefix-text c =
-    let put = c .before in
-    puts-within (rules-room _ (past-valid (put .before .before .before))) (put .put-rules .ensures)
+array-share-prefix-text c = puts-within (c .before .put-rules .ensures)
 
 slice-aggregate-write : tie.Need-slice-aggregate-write
-unfolding rulesOf
-slice-aggregate-write c =
-    let put = c .before .before in
-    sym (length-take-le _ _ (puts-within (rules-room _ (past-valid (put .before .before .before))) (put .put-rules .ensures)))
+slice-aggregate-write c = sym (length-take-le _ _ (puts-within (c .before .before .put-rules .ensures)))
 
 write-requires : tie.Need-write-requires
 write-requires c κs = search needs

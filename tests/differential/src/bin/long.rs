@@ -8,7 +8,8 @@
 //! was compared, or the first difference. A difference names its kind and seed;
 //! `long THAT_SEED 1 THAT_KIND` shows it again.
 
-use differential::cases::{notebook, records, reports, running, tally, texts, written};
+use differential::cases::{notebook, printed, records, reported, reports, running};
+use differential::cases::{tally, texts, written};
 use differential::compare::compare;
 use differential::counts::Counts;
 use differential::differ::Difference;
@@ -22,7 +23,7 @@ use std::time::Instant;
 type Kind = (&'static str, fn(u64) -> Case);
 
 /// Each kind of case that `probe` answers.
-const KINDS: [Kind; 11] = [
+const KINDS: [Kind; 14] = [
     (running::KIND, running::case),
     (records::KIND, records::case),
     (records::STALE, records::stale_case),
@@ -34,6 +35,9 @@ const KINDS: [Kind; 11] = [
     (written::KIND, written::case),
     (written::GROWN, written::grown_case),
     (written::AGAIN, written::again_case),
+    (reported::KIND, reported::case),
+    (reported::GROWN, reported::grown_case),
+    (printed::KIND, printed::case),
 ];
 
 /// The kinds of long cycles; of these a hundredth of the cases is compared.

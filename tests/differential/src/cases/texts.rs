@@ -121,15 +121,18 @@ pub fn pair_case(seed: u64) -> Case {
 
 /// A rules text and a cycle text.
 pub fn pair(seed: u64) -> (Vec<u8>, Vec<u8>) {
-    let mut random = Random::new(seed);
+    random_pair(&mut Random::new(seed))
+}
+
+pub(super) fn random_pair(random: &mut Random) -> (Vec<u8>, Vec<u8>) {
     let rules = match random.one_in(4) {
-        true => damaged_rules_text(&mut random),
+        true => damaged_rules_text(random),
         false => {
             let count = random.pick(&[0, 1, 1, 2, 3, 5, 16]);
-            random_rules_text(&mut random, count)
+            random_rules_text(random, count)
         }
     };
-    let cycle = pair_cycle(&mut random, &rules);
+    let cycle = pair_cycle(random, &rules);
     (cut(rules), cut(cycle))
 }
 

@@ -50,7 +50,7 @@ pub fn case(seed: u64) -> Case {
 
 /// A table; in a part of them numbers have any count of digits, unused slots are
 /// filled, or fields of a rule or the count are changed.
-fn random_table(random: &mut Random) -> TableRecord {
+pub(super) fn random_table(random: &mut Random) -> TableRecord {
     let count = random.pick(&[0, 1, 1, 2, 2, 3, 5, 15, 16]);
     let table = table_of(&random_rules(random, count));
     let mut run = start(&table).expect("a valid table");
@@ -69,7 +69,12 @@ fn random_table(random: &mut Random) -> TableRecord {
 
 /// The same for runs, closed or not.
 fn random_run(random: &mut Random) -> Record {
-    let mut run = valid_run(random);
+    let run = valid_run(random);
+    untidy(random, run)
+}
+
+/// A valid run, in a part of them closed or changed as above.
+pub(super) fn untidy(random: &mut Random, mut run: Record) -> Record {
     if random.one_in(2) {
         spread_numbers(random, &mut run);
     }
@@ -123,7 +128,7 @@ fn text_of(write: impl Fn(&mut [u8]) -> Result<usize, Refusal>) -> Option<Vec<u8
 }
 
 /// The sizes of buffers for a text, on both sides of its length.
-fn sizes(text: &Option<Vec<u8>>) -> Vec<u64> {
+pub(super) fn sizes(text: &Option<Vec<u8>>) -> Vec<u64> {
     let Some(text) = text else {
         return OTHER_SIZES.to_vec();
     };
@@ -132,7 +137,7 @@ fn sizes(text: &Option<Vec<u8>>) -> Vec<u64> {
 }
 
 /// What has to be answered: 11, then 15.
-fn answer_of(text: &Option<Vec<u8>>, size: u64) -> Result<usize, Refusal> {
+pub(super) fn answer_of(text: &Option<Vec<u8>>, size: u64) -> Result<usize, Refusal> {
     let text = text.as_ref().ok_or(Refusal::plain(11))?;
     match size < text.len() as u64 {
         true => Err(Refusal::plain(15)),
@@ -163,7 +168,7 @@ fn write_both(session: &mut Session) {
 
 /// Neither the run has changed nor the table under construction, which becomes
 /// the run's.
-fn compare_unchanged(session: &mut Session) {
+pub(super) fn compare_unchanged(session: &mut Session) {
     session.compare_run();
     session.set_table();
     session.compare_run();

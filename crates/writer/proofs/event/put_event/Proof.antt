@@ -1,7 +1,7 @@
 -- Six fields, each with the byte that ends it.
 use Rattle.cycle_text.specs.Written.{eventFields}
 use Rattle.buffer.proofs.Puts.{puts-then}
-use Rattle.writer.proofs.Lines.{puts-line}
+use Rattle.buffer.proofs.Lines.{puts-line}
 use borrow.Author.Needs.{needs}
 use Rattle.writer.proofs.event.put_event.Statement.{statement}
 use Rattle.writer.proofs.event.put_event.Tie as tie

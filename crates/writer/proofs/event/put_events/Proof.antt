@@ -8,7 +8,7 @@ use Rattle.line.specs.Texts.{writtenText}
 use Rattle.cycle_text.specs.Written.{eventFields, eventsText}
 use Rattle.buffer.specs.Puts.{Puts}
 use Rattle.buffer.proofs.Puts.{puts-none, puts-length}
-use Rattle.writer.proofs.Lines.{puts-more}
+use Rattle.buffer.proofs.Lines.{puts-more}
 use Rattle.writer.proofs.event.put_events.Statement.{statement}
 use Rattle.writer.proofs.event.put_events.Tie as tie
 

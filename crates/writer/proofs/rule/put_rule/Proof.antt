@@ -1,7 +1,7 @@
 -- Seven fields, each with the byte that ends it.
 use Rattle.rule_text.specs.Written.{ruleFields}
 use Rattle.buffer.proofs.Puts.{puts-then}
-use Rattle.writer.proofs.Lines.{puts-line}
+use Rattle.buffer.proofs.Lines.{puts-line}
 use borrow.Author.Needs.{needs}
 use Rattle.writer.proofs.rule.put_rule.Statement.{statement}
 use Rattle.writer.proofs.rule.put_rule.Tie as tie

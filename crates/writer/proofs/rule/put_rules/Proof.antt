@@ -8,7 +8,7 @@ use Rattle.line.specs.Texts.{writtenText}
 use Rattle.rule_text.specs.Written.{ruleFields, rulesText}
 use Rattle.buffer.specs.Puts.{Puts}
 use Rattle.buffer.proofs.Puts.{puts-none, puts-length}
-use Rattle.writer.proofs.Lines.{puts-more}
+use Rattle.buffer.proofs.Lines.{puts-more}
 use Rattle.writer.proofs.rule.put_rules.Statement.{statement}
 use Rattle.writer.proofs.rule.put_rules.Tie as tie
 

@@ -1,0 +1,4 @@
+-- How the lines are put into a buffer, and how many bytes they have.
+pub mod Rules
+pub mod Room
+pub mod Texts

@@ -1,0 +1,104 @@
+-- How many bytes are printed: of a line at most 13 for an activation, 21 for a total; of a valid
+-- run at most 53584.
+use mathlib.Core.Path.{_≡_, refl}
+use mathlib.Core.Bool.{Bool, true}
+use mathlib.Core.List.{List, [], _∷_}
+use Prim.Native.Nat.{ℕ, zero, suc, _+_, _*_, _^_, _≤_, _<_}
+use native.Mathlib.Omega.{arith}
+use borrow.Author.Tests.{leb-true}
+use Rattle.declare.specs.Lists.{all}
+use Rattle.declare.specs.declared.Standing.{Standing}
+use Rattle.declare.specs.declared.Standing.the-variants.{Idle, Open, Fulfilled, Violated}
+use Rattle.standings.proofs.Counts.{totals-small}
+use Rattle.run.specs.declared.Run.{Run}
+use Rattle.run.specs.Records.{standingAt, validStanding, validRun}
+use Rattle.run.proofs.Bounds.{valid-parts}
+use Rattle.run.proofs.Places.{standings-each}
+use Rattle.run.proofs.Validity.{at-valid}
+use Rattle.line.specs.Fields.{isByte}
+use Rattle.line.specs.Texts.{writtenLine, writtenText}
+use Rattle.line.proofs.Texts.{written-append, written-one}
+use Rattle.line.proofs.Lengths.{Within, within-none, within-more, within-append, within-most, number-within, no-more, _and_, line-within}
+use Rattle.notebook.specs.declared.Text.{Text}
+use Rattle.notebook.specs.declared.Text.the-variants.{Rules, Cycle}
+use Rattle.printing.specs.Lines.{activationLine, totalLine, refusedLine, totalWord, refusedWord, lineFields}
+use Rattle.printing.specs.Report.{positionLines, activationLines, totalOf, ruleLines, rulesLines, reportLines, reportOf, wordOf}
+use Rattle.printing.specs.Printing.{printedBytes}
+
+-- ---- lines
+
+activation-within : (k i letter j : ℕ) → k < 100 → i < 1000 → isByte letter ≡ true → j < 1000 → Within 13 (writtenLine lineFields (activationLine k i letter j))
+unfolding lineFields
+activation-within k i letter j a b c d =
+    line-within lineFields (2 ∷ 3 ∷ 1 ∷ 3 ∷ []) (activationLine k i letter j)
+    (number-within 1 k (omega arith) and number-within 2 i (omega arith) and within-more letter c (within-none 0) and number-within 2 j (omega arith) and no-more)
+
+total-within : (k a f v : ℕ) → k < 100 → a < 1000 → f < 1000 → v < 1000 → Within 21 (writtenLine lineFields (totalLine k a f v))
+unfolding lineFields isByte all
+total-within k a f v h l m n =
+    line-within lineFields (5 ∷ 2 ∷ 3 ∷ 3 ∷ 3 ∷ []) (totalLine k a f v)
+    (word and number-within 1 k (omega arith) and number-within 2 a (omega arith) and number-within 2 f (omega arith) and number-within 2 v (omega arith) and no-more)
+  where
+    word : Within 5 totalWord
+    word = record { bytes = refl; most = omega arith }
+
+word-within : (text : Text) → Within 5 (wordOf text)
+unfolding wordOf isByte all
+word-within Rules = record { bytes = refl; most = omega arith }
+word-within Cycle = record { bytes = refl; most = omega arith }
+
+pub refused-within : (text : Text) (number line : ℕ) → number < 1000 → line < 10 ^ 10 → Within 29 (writtenLine lineFields (refusedLine (wordOf text) number line))
+unfolding lineFields isByte all
+refused-within text number line h l =
+    line-within lineFields (7 ∷ 5 ∷ 3 ∷ 10 ∷ []) (refusedLine (wordOf text) number line)
+    (word and word-within text and number-within 2 number (omega arith) and number-within 9 line (omega arith) and no-more)
+  where
+    word : Within 7 refusedWord
+    word = record { bytes = refl; most = omega arith }
+
+-- ---- a rule
+
+-- the line of a position, of a standing that a valid record may have there
+position-within : (over : Bool) (n k i : ℕ) (s : Standing) → n < 1000 → k < 100 → i < 1000 → validStanding over n s ≡ true → Within 13 (writtenText lineFields (positionLines k i s))
+unfolding positionLines writtenText isByte
+position-within over n k i Idle h a b v = within-none 13
+position-within over n k i Open h a b v = rw (written-one lineFields _) (activation-within k i _ 0 a b refl (omega arith))
+position-within over n k i (Fulfilled j) h a b v =
+    rw (written-one lineFields _) (activation-within k i _ j a b refl (omega (arith, leb-true j n v)))
+position-within over n k i (Violated j) h a b v =
+    rw (written-one lineFields _) (activation-within k i _ j a b refl (omega (arith, leb-true j n v)))
+
+module _ (over : Bool) (n k : ℕ) (few : n < 1000) (rule : k < 100) (s : ℕ → Standing) where
+  positions-within : (m : ℕ) → m < 1000 → ((i : ℕ) → 1 ≤ i → i ≤ m → validStanding over n (s i) ≡ true) → Within (13 * m) (writtenText lineFields (activationLines k s m))
+  unfolding activationLines writtenText
+  positions-within zero h f = within-none 0
+  positions-within (suc m) h f =
+      rw (written-append lineFields (activationLines k s m) (positionLines k (suc m) (s (suc m))))
+      (within-most (omega arith) (within-append (positions-within m (omega arith) (λ i a b. f i a (omega arith))) (position-within over n k (suc m) (s (suc m)) few rule (omega arith) (f (suc m) (omega arith) (omega arith)))))
+
+  rule-within : ((i : ℕ) → 1 ≤ i → i ≤ n → validStanding over n (s i) ≡ true) → Within (13 * n + 21) (writtenText lineFields (ruleLines k s n))
+  unfolding ruleLines totalOf
+  rule-within f =
+      let t = totals-small s n refl in
+      rw (written-append lineFields (activationLines k s n) _, written-one lineFields _)
+      (within-append (positions-within n few f) (total-within k _ _ _ rule (omega (arith, t .activations)) (omega (arith, t .fulfilled)) (omega (arith, t .violated))))
+
+-- ---- a run
+
+module _ (r : Run) (valid : validRun r ≡ true) where
+  may-stand : (k i : ℕ) → 1 ≤ k → k ≤ r .table .count → 1 ≤ i → i ≤ r .count → validStanding (r .closed) (r .count) (standingAt r k i) ≡ true
+  may-stand k i a b c d =
+      let p = valid-parts r valid in
+      at-valid (r .closed) (r .count) i (standingAt r k i) (standings-each (r .closed) (r .table .count) (r .count) (r .cells) (p .standings) k i a b c (omega (arith, p .events-fit)))
+
+  rules-within : (k : ℕ) → k ≤ r .table .count → Within (3349 * k) (writtenText lineFields (rulesLines r k))
+  unfolding rulesLines writtenText
+  rules-within zero h = within-none 0
+  rules-within (suc k) h =
+      let p = valid-parts r valid in
+      rw (written-append lineFields (rulesLines r k) _)
+      (within-most (omega (arith, p .events-fit)) (within-append (rules-within k (omega arith)) (rule-within (r .closed) (r .count) (suc k) (omega (arith, p .events-fit)) (omega (arith, p .rules-fit)) (standingAt r (suc k)) (λ i a b. may-stand (suc k) i (omega arith) h a b))))
+
+  pub report-within : Within printedBytes (reportOf r)
+  unfolding reportOf reportLines
+  report-within = within-most (omega (arith, valid-parts r valid .rules-fit)) (rules-within (r .table .count) (omega arith))

@@ -1,0 +1,2 @@
+-- Small runs and texts: what is printed of them, and what it should be. Proved as `checked` in
+-- proofs/Cases.
