@@ -40,36 +40,22 @@ use Rattle.rule_text.proofs.RoundTrips.{valid-rules, round-trips as rules-trips
 use Rattle.buffer.specs.declared.WriteAnswer.{WriteAnswer}
 use Rattle.buffer.specs.declared.WriteAnswer.the-variants.{Written, Refused}
 use Rattle.buffer.specs.Writes.{writeOf, bufferAfter, writeAnswer, Writes}
+use Rattle.buffer.proofs.Writes.{written, comes-out}
 use Rattle.writer.specs.Writer.{WritesRules, WritesCycle}
 use Rattle.writer.proofs.Room.{rules-room, cycle-room}
 use Rattle.notebook.specs.Notebook.{readAs, notebookOf}
-use Rattle.notebook.proofs.Replies.{accepted-texts}
+use Rattle.notebook.proofs.Read.{read-from, read-table, read-valid}
 use Rattle.demands.specs.PrintBack.{ComesOut, PrintBack}
 use Rattle.demands.proofs.Chains.{same}
 use Rattle.demands.proofs.Demand1.{demand1}
 
 -- ---- a text and a buffer
 
--- a length is returned: the record is valid, and so many bytes are its text
-written : (valid : Bool) (text before after : List ℕ) (n : ℕ) → Writes valid text before after (Written n) → (valid ≡ true) × (take n after ≡ text)
-unfolding writeOf writeAnswer bufferAfter
-written valid text before after n w =
-    let v = required valid 11 _ n (sym (w .answers)) in
-    let room = required (leb (length text) (length before)) 15 _ n (v .1) in
-    let left : after ≡ text ++ drop n before = w .leaves ∙ ap (bufferAfter text before) (sym (w .answers)) in
-    (v .0, ap (take n) left ∙ take-at text (drop n before) n (of-of (room .1)))
-
-returned-length : (answer : WriteAnswer) (n : ℕ) → writeAnswer answer ≡ accepted n → answer ≡ Written n
-unfolding writeAnswer
-returned-length (Written m) n e = ap Written (of-of e)
-returned-length (Refused cause) n e = absurd (no-of e)
-
 -- the text of a valid record
-comes-out : (valid : Bool) (text : List ℕ) → valid ≡ true → ComesOut text (Writes valid text)
-unfolding writeOf bufferAfter
-comes-out valid text v before after answer room w =
-    let e : writeOf valid text before ≡ accepted (length text) = passed 11 _ v ∙ passed 15 _ (le-leb (length text) (length before) room) in
-    record { returned = returned-length answer (length text) (w .answers ∙ e); left = w .leaves ∙ ap (bufferAfter text before) e }
+out : (valid : Bool) (text : List ℕ) → valid ≡ true → ComesOut text (Writes valid text)
+out valid text v before after answer room w =
+    let p = comes-out valid text before after answer v room w in
+    record { returned = p .0; left = p .1 }
 
 -- a buffer that has room is not too short
 never-short : (valid : Bool) (text buffer : List ℕ) → (valid ≡ true → length text ≤ length buffer) → writeOf valid text buffer ≡ refused 15 → ⊥
@@ -97,41 +83,17 @@ cycle-back r before after n read w h =
 
 -- of the table of its rules
 module _ (text : List ℕ) (rs : List Rule) (read : rulesTextOf text ≡ All rs) where
-  rules-valid : ValidRules rs
-  rules-valid = rules-trips .valid text rs read .0
-
-  accepted-valid : validTable (tableOf rs) ≡ true
-  accepted-valid = table-valid rs (rules-valid .most) (rules-valid .valid)
-
   same-text : rulesText (rulesOf (tableOf rs)) ≡ text
   same-text = ap rulesText (table-rules rs) ∙ rules-trips .again text rs read
 
   table-out : ComesOut text (WritesRules (tableOf rs))
-  table-out = subst (λ (s : List ℕ). ComesOut s (WritesRules (tableOf rs))) same-text (comes-out _ _ accepted-valid)
+  table-out = subst (λ (s : List ℕ). ComesOut s (WritesRules (tableOf rs))) same-text (out _ _ (read-table text rs read))
 
 -- of a valid run with its events
 run-out : (text : List ℕ) (es : List Event) (r : Run) → cycleTextOf text ≡ All es → validRun r ≡ true → eventsOf r ≡ es → ComesOut text (WritesCycle r)
 run-out text es r read v e =
     let same : eventsText (eventsOf r) ≡ text = ap eventsText e ∙ cycle-trips .again text es read in
-    subst (λ (s : List ℕ). ComesOut s (WritesCycle r)) same (comes-out _ _ v)
-
--- two accepted texts, of the notebook's run
-module _ (rules cycle : List ℕ) (rs : List Rule) (es : List Event) (p : rulesTextOf rules ≡ All rs) (q : cycleTextOf cycle ≡ All es) where
-  abbrev run : Run
-  run = finishedRun (tableOf rs) (length es) (eventSlots es)
-
-  run-valid : validRun run ≡ true
-  run-valid =
-      finished-valid (tableOf rs) (table-slots rs (rules-valid rules rs p .most)) (accepted-valid rules rs p) es (cycle-trips .valid cycle es q)
-
-  both-out : ComesOut rules (WritesRules (run .table)) × ComesOut cycle (WritesCycle run)
-  unfolding finishedRun newRun
-  both-out = (table-out rules rs p, run-out cycle es run q run-valid (finished-events (tableOf rs) es))
-
-  is-run : (r : Run) → notebookOf rules cycle ≡ readAs r → run ≡ r
-  is-run r e =
-      let same : readAs run ≡ readAs r = sym (accepted-texts rules cycle rs es p q) ∙ e in
-      cc
+    subst (λ (s : List ℕ). ComesOut s (WritesCycle r)) same (out _ _ v)
 
 -- ---- all of it
 
@@ -142,11 +104,12 @@ rules-again text read h o =
     rw (rules-read text read h rs e .1) (table-out text rs e)
 
 notebook-again : (rules cycle : List ℕ) (r : Run) → notebookOf rules cycle ≡ readAs r → ComesOut rules (WritesRules (r .table)) × ComesOut cycle (WritesCycle r)
+unfolding finishedRun newRun
 notebook-again rules cycle r e =
-    let x = demand1 .notebook rules cycle .accepts .0 (r, e) in
-    let rs = x .0 .0 in
-    let es = x .1 .0 in
-    rw (← is-run rules cycle rs es (x .0 .1) (x .1 .1) r e) (both-out rules cycle rs es (x .0 .1) (x .1 .1))
+    let f = read-from rules cycle r e in (
+      rw (f .run) (table-out rules (f .rs) (f .rules-read)),
+      run-out cycle (f .es) r (f .cycle-read) (read-valid rules cycle r e) (ap eventsOf (f .run) ∙ finished-events (tableOf (f .rs)) (f .es)),
+    )
 
 pub print-back : PrintBack
 print-back =

@@ -2,7 +2,9 @@
 use mathlib.Core.Path.{_≡_, sym, ap, _∙_}
 use mathlib.Core.Bool.{true}
 use mathlib.Core.List.{List}
-use Prim.Native.Nat.{ℕ}
+use Prim.Native.Nat.{ℕ, _≤_, _<_}
+use native.Mathlib.Omega.{arith}
+use lib.ListN.{length}
 use Rattle.declare.specs.declared.Refusal.{Refusal}
 use Rattle.declare.specs.Refusals.{numberOf}
 use Rattle.run.specs.Records.{validRun}
@@ -12,9 +14,11 @@ use Rattle.notebook.specs.declared.Text.{Text}
 use Rattle.notebook.specs.declared.Outcome.the-variants.{Closed, Refused}
 use Rattle.notebook.specs.declared.Notebook.{Notebook}
 use Rattle.notebook.specs.Notebook.{readAs, notRead, outcomeReply, notebookReply, notebookOf}
-use Rattle.notebook.proofs.Read.{read-valid}
+use Rattle.notebook.proofs.Read.{read-valid, refused-at}
 use Rattle.printing.specs.Lines.{refusedLine, lineFields}
 use Rattle.printing.specs.Report.{reportOf, wordOf, replyLines, printedLines, printedOf}
+use Rattle.printing.specs.Printing.{printedBytes}
+use Rattle.printing.proofs.Room.{refused-within, report-within}
 
 module _ (rules cycle : List ℕ) (read : Notebook) (replies : notebookReply read ≡ notebookOf rules cycle) where
   module _ (closed : read .outcome ≡ Closed) where
@@ -29,6 +33,9 @@ module _ (rules cycle : List ℕ) (read : Notebook) (replies : notebookReply rea
     unfolding reportOf printedOf printedLines replyLines
     closed-printed = rw closed-reply
 
+    pub closed-few : length (printedOf rules cycle) ≤ printedBytes
+    closed-few = rw (← closed-printed) (report-within (read .run) closed-valid .most)
+
   module _ (text : Text) (cause : Refusal) (line : ℕ) (refused : read .outcome ≡ Refused text cause line) where
     pub refused-reply : notebookOf rules cycle ≡ notRead text (numberOf cause) line
     unfolding notebookReply outcomeReply
@@ -37,3 +44,8 @@ module _ (rules cycle : List ℕ) (read : Notebook) (replies : notebookReply rea
     pub refused-printed : writtenLine lineFields (refusedLine (wordOf text) (numberOf cause) line) ≡ printedOf rules cycle
     unfolding printedOf printedLines replyLines
     refused-printed = rw refused-reply (sym (written-one lineFields _))
+
+    pub refused-few : numberOf cause < 256 → length (printedOf rules cycle) ≤ printedBytes
+    refused-few h =
+        let l = refused-at rules cycle text (numberOf cause) line refused-reply in
+        rw (← refused-printed) (omega (arith, refused-within text (numberOf cause) line (omega arith) (omega arith) .most))

@@ -2,7 +2,8 @@
 -- the one number is 15.
 use mathlib.Core.Bool.{true}
 use mathlib.Core.List.{List}
-use Prim.Native.Nat.{ℕ}
+use Prim.Native.Nat.{ℕ, _≤_}
+use lib.ListN.{length}
 use Rattle.declare.specs.Answers.{Answer}
 use Rattle.run.specs.declared.Run.{Run}
 use Rattle.run.specs.Records.{validRun}
@@ -25,5 +26,7 @@ WritesReport r before after answer = Writes (validRun r) (reportOf r) before aft
 abbrev pub printTextsOf : List ℕ → List ℕ → List ℕ → Answer ℕ
 printTextsOf rules cycle buffer = writeOf true (printedOf rules cycle) buffer
 
-abbrev pub PrintsTexts : List ℕ → List ℕ → List ℕ → List ℕ → WriteAnswer → Type 0
-PrintsTexts rules cycle before after answer = Writes true (printedOf rules cycle) before after answer
+pub record PrintsTexts (rules cycle before after : List ℕ) (answer : WriteAnswer) : Type 0 where
+  pub writes : Writes true (printedOf rules cycle) before after answer
+  -- a buffer of so many bytes is never too short
+  pub few : length (printedOf rules cycle) ≤ printedBytes

@@ -13,7 +13,7 @@ mod activation; // activation.rt: the lines of activations
 mod report; // report.rt: the lines of rules
 pub mod refused; // refused.rt: the line of a refusal
 
-// The most bytes that are printed: such a buffer is never too short.
+// The most bytes that are printed.
 pub const PRINTED_BYTES: usize = 53584;
 
 // What is printed of the run, closed or not. Refused with 11 or 15.
@@ -29,7 +29,7 @@ pub fn write_report(run: Run, out: &mut [u8]) -> WriteAnswer
 }
 
 // What is printed of a rules text and a cycle text: the verdicts, or the line of the first refusal.
-// Refused with 15.
+// Refused with 15, a buffer of PRINTED_BYTES never.
 pub fn print_texts(rules: &[u8], cycle: &[u8], out: &mut [u8]) -> WriteAnswer
     ensures { λ r. ⌜ PrintsTexts (now (rules .entry)) (now (cycle .entry)) (now (out .entry)) (now (out .exit)) r ⌝ }
 {

@@ -14,6 +14,7 @@ mod calls; // calls.rt: the library's calls
 mod dump; // dump.rt: standings, and the whole run
 mod text; // text.rt: texts that follow a command
 mod written; // written.rt: texts written back
+mod printed; // printed.rt: texts that follow a command, printed
 mod day; // day.rt: the tally
 
 pub struct State {
@@ -63,6 +64,16 @@ fn change_run(table: Table, run: Run, command: [u8; 32]) -> Run {
         // W
         87 => {
             written::cycle(run, command);
+            run
+        },
+        // v
+        118 => {
+            written::report(run, command);
+            run
+        },
+        // p
+        112 => {
+            printed::texts(command);
             run
         },
         // d

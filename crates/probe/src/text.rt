@@ -1,4 +1,5 @@
 // Texts that follow a command: of one above 65536 bytes the first 65536 are taken.
+ghost use Prim.Native.Nat.{_≤_};
 use crate::answer;
 use crate::command;
 use crate::dump::least;
@@ -78,15 +79,27 @@ fn text_number(text: Text) -> u8 {
     }
 }
 
-fn read_notebook(rules: &mut [u8], cycle: &mut [u8]) -> Notebook {
+// As many bytes as a field of 32 bits names, at most 65536.
+pub fn size(field: u32) -> usize
+    ensures { λ r. ⌜ r ≤ 65536 ⌝ }
+{
+    least(command::index(field), 65536)
+}
+
+// Both texts that follow a command, the rules text first.
+pub fn read_both(rules: &mut [u8], cycle: &mut [u8]) {
     io::read_full(0, rules);
     io::read_full(0, cycle);
+}
+
+fn read_notebook(rules: &mut [u8], cycle: &mut [u8]) -> Notebook {
+    read_both(rules, cycle);
     notebook::read_notebook(rules, cycle)
 }
 
 pub fn notebook(run: Run, command: [u8; 32]) -> Run {
-    let p = least(command::index(command::low_half(command)), 65536);
-    let q = least(command::index(command::high_half(command)), 65536);
+    let p = size(command::low_half(command));
+    let q = size(command::high_half(command));
     let mut rules = io::large_buffer();
     let mut cycle = io::large_buffer();
     let read = read_notebook(&mut rules[..p], &mut cycle[..q]);

@@ -7,9 +7,9 @@ use declare::Table;
 use run::Run;
 
 // What each byte of the buffer is before the call.
-const BEFORE: u8 = 165;
+pub const BEFORE: u8 = 165;
 
-fn said(a: WriteAnswer) {
+pub fn said(a: WriteAnswer) {
     match a {
         WriteAnswer::Written(length) => answer::written(length),
         WriteAnswer::Refused(refusal) => answer::refused(refusal, 0, 0),
@@ -36,4 +36,15 @@ pub fn cycle(run: Run, command: [u8; 32]) {
     let n = least(command::number(command), 65536);
     let mut bytes = [BEFORE; 65536];
     write_cycle(run, &mut bytes[..n]);
+}
+
+fn write_report(run: Run, out: &mut [u8]) {
+    said(printing::write_report(run, out));
+    io::write_all(1, out);
+}
+
+pub fn report(run: Run, command: [u8; 32]) {
+    let n = least(command::number(command), 65536);
+    let mut bytes = [BEFORE; 65536];
+    write_report(run, &mut bytes[..n]);
 }

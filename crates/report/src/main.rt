@@ -1,53 +1,66 @@
 // The verdicts on a finished cycle: reads rules.tsv and cycle.tsv in the current folder, and prints
 // the verdicts or a refusal.
-mod file; // file.rt: reading a file
-mod print; // print.rt: bytes, numbers and lines
-mod verdicts; // verdicts.rt: the verdicts of a closed run
+ghost use mathlib.Core.Path.{_≡_};
+ghost use lib.ListN.{take};
+ghost use Rattle.io.specs.Counts.{Counts};
+ghost use Rattle.printing.specs.Report.{printedOf};
+use buffer::WriteAnswer;
+use files::FILE_BYTES;
+use printing::PRINTED_BYTES;
+use printing::print_texts;
 
-use declare::Refusal;
-use notebook::Text;
-
-fn print_notebook(rules: &[u8], cycle: &[u8]) {
-    let read = notebook::read_notebook(rules, cycle);
-    let outcome = read.outcome;
-    match outcome {
-        notebook::Outcome::Closed => verdicts::print_verdicts(read.run),
-        notebook::Outcome::Refused(text, refusal, line) => print::print_refusal(
-            text,
-            refusal,
-            line,
-        ),
-    }
-}
-
-fn read_cycle(rules: &[u8]) {
-    let mut cycle = [0u8; 32768];
-    let read = file::read_file(b"cycle.tsv", &mut cycle);
-    if !read.whole {
-        print::print_refusal(Text::Cycle, Refusal::NoFile, 0);
-        return;
-    }
-    let end = read.length;
-    print_notebook(rules, &cycle[..end]);
-}
-
-// The cycle file is opened only after the rules are accepted.
-fn accept_rules(rules: &[u8]) {
+fn are_accepted(rules: &[u8]) -> bool {
     let read = rule_text::read_rules(rules);
     let outcome = read.outcome;
     match outcome {
-        line::Outcome::Accepted => read_cycle(rules),
-        line::Outcome::Refused(refusal, line) => print::print_refusal(Text::Rules, refusal, line),
+        line::Outcome::Accepted => true,
+        line::Outcome::Refused(_, _) => false,
     }
 }
 
-fn main() {
-    let mut rules = [0u8; 32768];
-    let read = file::read_file(b"rules.tsv", &mut rules);
+// What is printed of the two texts, in front of the buffer. It is never too short, so nothing is
+// lost.
+fn printed(rules: &[u8], cycle: &[u8], out: &mut [u8; PRINTED_BYTES]) -> usize
+    ensures { λ r. ⌜ Counts r (now (out .exit)) ⌝ }
+    ensures { λ r. ⌜ take r (now (out .exit)) ≡ printedOf (now (rules .entry)) (now (cycle .entry)) ⌝ }
+{
+    match print_texts(rules, cycle, out) {
+        WriteAnswer::Written(length) => length,
+        WriteAnswer::Refused(_) => 0,
+    }
+}
+
+fn print(rules: &[u8], cycle: &[u8]) {
+    let mut out = [0u8; PRINTED_BYTES];
+    let length = printed(rules, cycle, &mut out);
+    files::print(&out[..length]);
+}
+
+fn read_cycle(rules: &[u8]) {
+    let mut cycle = [0u8; FILE_BYTES];
+    let read = files::read_file(b"cycle.tsv", &mut cycle);
     if !read.whole {
-        print::print_refusal(Text::Rules, Refusal::NoFile, 0);
+        files::print_unread(b"cycle");
         return;
     }
     let end = read.length;
-    accept_rules(&rules[..end]);
+    print(rules, &cycle[..end]);
+}
+
+fn main() {
+    let mut text = [0u8; FILE_BYTES];
+    let read = files::read_file(b"rules.tsv", &mut text);
+    if !read.whole {
+        files::print_unread(b"rules");
+        return;
+    }
+    let end = read.length;
+    let rules = &text[..end];
+    // The cycle file is opened only after the rules are accepted; what is printed of refused ones
+    // is the same for every cycle text.
+    if are_accepted(rules) {
+        read_cycle(rules);
+    } else {
+        print(rules, b"");
+    }
 }

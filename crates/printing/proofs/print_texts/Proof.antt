@@ -1,7 +1,7 @@
 -- By the notebook's outcome.
 use native.Mathlib.Omega.{arith}
 use Rattle.notebook.proofs.Read.{refused-at}
-use Rattle.printing.proofs.Texts.{closed-valid, closed-printed, refused-reply, refused-printed}
+use Rattle.printing.proofs.Texts.{closed-valid, closed-printed, closed-few, refused-reply, refused-printed, refused-few}
 use borrow.Author.Needs.{needs}
 use Rattle.printing.proofs.print_texts.Statement.{statement}
 use Rattle.printing.proofs.print_texts.Tie as tie
@@ -39,7 +39,11 @@ returns c =
     let told = written .before .before in
     let read = told .before .before in
     let replies = read .read-notebook .ensures .0 in
-    rw (closed-valid _ _ _ replies (told .enum-told .given .1), closed-printed _ _ _ replies (told .enum-told .given .1)) at (written .write-report .ensures)
+    let closed = told .enum-told .given .1 in
+    record {
+      writes = rw (closed-valid _ _ _ replies closed, closed-printed _ _ _ replies closed) at (written .write-report .ensures);
+      few = closed-few _ _ _ replies closed;
+    }
 
 same-length-2 : tie.Need-same-length-2
 same-length-2 c = search needs
@@ -50,8 +54,12 @@ returns-2 c =
     let number = written .before .before in
     let told = number .before .before in
     let read = told .before .before in
-    let printed = refused-printed _ _ _ (read .read-notebook .ensures .0) _ _ _ (told .outcome .given .1) in
-    rw (number .number-of .ensures, printed) at (written .write-refused .ensures)
+    let replies = read .read-notebook .ensures .0 in
+    let refused = told .outcome .given .1 in
+    record {
+      writes = rw (number .number-of .ensures, refused-printed _ _ _ replies _ _ _ refused) at (written .write-refused .ensures);
+      few = refused-few _ _ _ replies _ _ _ refused (omega (arith, number .number-of .ensures));
+    }
 
 pub print-texts-spec : {M : Type 1} → statement M
 print-texts-spec =

@@ -61,8 +61,7 @@ loop-again : tie.Need-loop-again Inv-loop μ-loop
 loop-again c =
     let put = c .before .before .before in
     let read = put .before .before in
-    let loop = read .before .before .loop in
-    (
+    let loop = read .before .before .loop in (
       omega arith,
       next-position _ _ (loop .p) _ (next-place _ _ _) (loop .inv .1) (put .put-position .ensures),
       totals-again _ _ (loop .p) (omega arith) (loop .inv .2) refl (c .with-standing .ensures),

@@ -5,51 +5,39 @@ use borrow.Author.Needs.{needs}
 use Rattle.probe.proofs.text.rules.Statement.{statement}
 use Rattle.probe.proofs.text.rules.Tie as tie
 
--- src/text.rt:28:19
 number-requires : tie.Need-number-requires
 number-requires c κs = search needs
 
--- src/text.rt:28:9
 least-requires : tie.Need-least-requires
 least-requires c κs = search needs
 
--- src/text.rt:29:21
 large-buffer-requires : tie.Need-large-buffer-requires
 large-buffer-requires c κs = search needs
 
--- src/text.rt:30:27
 array-borrow-prefix-bytes : tie.Need-array-borrow-prefix-bytes
 array-borrow-prefix-bytes c = search needs
 
--- src/text.rt:30:27
 slice-aggregate-read-rules : tie.Need-slice-aggregate-read-rules
 slice-aggregate-read-rules c = sym (length-take-le _ _ (search needs))
 
--- src/text.rt:30:9
 read-rules-requires : tie.Need-read-rules-requires
 read-rules-requires c κs = search needs
 
--- src/text.rt:34:13
 enum-told : tie.Need-enum-told
 enum-told c = search needs
 
--- src/text.rt:34:13
 accepted-requires : tie.Need-accepted-requires
 accepted-requires c κs = search needs
 
--- src/text.rt:37:32
 enum-known-outcome : tie.Need-enum-known-outcome
 enum-known-outcome c = search needs
 
--- src/text.rt:38:13
 refused-requires : tie.Need-refused-requires
 refused-requires c κs = search needs
 
--- src/text.rt:27:1
 returns : tie.Need-returns
 returns c = search needs
 
--- src/text.rt:27:1
 returns-2 : tie.Need-returns-2
 returns-2 c = search needs
 

@@ -1,5 +1,11 @@
-// Reading a file of at most 32768 bytes.
+// Files and standard output, for the programs that print.
 ghost use Rattle.io.specs.Counts.{Counts};
+use declare::Refusal;
+use declare::number_of;
+use printing::refused::put_refused;
+
+// The most bytes of a file.
+pub const FILE_BYTES: usize = 32768;
 
 // The first `length` bytes of the buffer are the file's, and `whole` says whether that is all of
 // the file.
@@ -16,7 +22,7 @@ fn at_end(fd: i32) -> bool {
 }
 
 // A file that is absent, cannot be read or does not fit is not read whole.
-pub fn read_file(name: &[u8], text: &mut [u8; 32768]) -> FileRead
+pub fn read_file(name: &[u8], text: &mut [u8; FILE_BYTES]) -> FileRead
     ensures { λ r. ⌜ Counts (r .length) (now (text .exit)) ⌝ }
 {
     let fd = os::open_read(name);
@@ -30,4 +36,19 @@ pub fn read_file(name: &[u8], text: &mut [u8; 32768]) -> FileRead
     let whole = at_end(fd);
     libc::close(fd);
     FileRead { whole, length }
+}
+
+// All of the bytes on standard output; if that fails, a line on standard error, because a list that
+// is cut looks like a whole one.
+pub fn print(bytes: &[u8]) {
+    if !io::write_all(1, bytes) {
+        os::fail(b"standard output could not be written in full");
+    }
+}
+
+// The line of a file that is not read whole; `word` is that of its text.
+pub fn print_unread(word: &[u8]) {
+    let mut line = [0u8; 64];
+    let length = put_refused(&mut line, word, number_of(Refusal::NoFile), 0);
+    print(&line[..length]);
 }
