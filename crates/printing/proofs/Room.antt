@@ -4,6 +4,7 @@ use mathlib.Core.Path.{_≡_, refl}
 use mathlib.Core.Bool.{Bool, true}
 use mathlib.Core.List.{List, [], _∷_}
 use Prim.Native.Nat.{ℕ, zero, suc, _+_, _*_, _^_, _≤_, _<_}
+use native.Mathlib.Nat.{mul-suc}
 use native.Mathlib.Omega.{arith}
 use borrow.Author.Tests.{leb-true}
 use Rattle.declare.specs.Lists.{all}
@@ -21,8 +22,8 @@ use Rattle.line.proofs.Texts.{written-append, written-one}
 use Rattle.line.proofs.Lengths.{Within, within-none, within-more, within-append, within-most, number-within, no-more, _and_, line-within}
 use Rattle.notebook.specs.declared.Text.{Text}
 use Rattle.notebook.specs.declared.Text.the-variants.{Rules, Cycle}
-use Rattle.printing.specs.Lines.{activationLine, totalLine, refusedLine, totalWord, refusedWord, lineFields}
-use Rattle.printing.specs.Report.{positionLines, activationLines, totalOf, ruleLines, rulesLines, reportLines, reportOf, wordOf}
+use Rattle.printing.specs.Lines.{PrintedLine, activationLine, totalLine, refusedLine, totalWord, refusedWord, lineFields}
+use Rattle.printing.specs.Report.{positionLines, linesUpTo, activationLines, totalOf, ruleLines, reportLines, reportOf, wordOf}
 use Rattle.printing.specs.Printing.{printedBytes}
 
 -- ---- lines
@@ -68,20 +69,23 @@ position-within over n k i (Fulfilled j) h a b v =
 position-within over n k i (Violated j) h a b v =
     rw (written-one lineFields _) (activation-within k i _ j a b refl (omega (arith, leb-true j n v)))
 
-module _ (over : Bool) (n k : ℕ) (few : n < 1000) (rule : k < 100) (s : ℕ → Standing) where
-  positions-within : (m : ℕ) → m < 1000 → ((i : ℕ) → 1 ≤ i → i ≤ m → validStanding over n (s i) ≡ true) → Within (13 * m) (writtenText lineFields (activationLines k s m))
-  unfolding activationLines writtenText
-  positions-within zero h f = within-none 0
-  positions-within (suc m) h f =
-      rw (written-append lineFields (activationLines k s m) (positionLines k (suc m) (s (suc m))))
-      (within-most (omega arith) (within-append (positions-within m (omega arith) (λ i a b. f i a (omega arith))) (position-within over n k (suc m) (s (suc m)) few rule (omega arith) (f (suc m) (omega arith) (omega arith)))))
+-- lines of 1 to n, of at most so many bytes each
+up-to-within : (most : ℕ) (f : ℕ → List PrintedLine) (n : ℕ) → ((i : ℕ) → 1 ≤ i → i ≤ n → Within most (writtenText lineFields (f i))) → Within (most * n) (writtenText lineFields (linesUpTo f n))
+unfolding linesUpTo writtenText
+up-to-within most f zero h = within-none _
+up-to-within most f (suc n) h =
+    rw (written-append lineFields (linesUpTo f n) (f (suc n)))
+    (within-most (more most n) (within-append (up-to-within most f n (λ i a b. h i a (omega arith))) (h (suc n) (omega arith) (omega arith))))
+  where
+    more : (m n : ℕ) → m * n + m ≤ m * suc n
+    more m n = rw (mul-suc m n) (omega arith)
 
-  rule-within : ((i : ℕ) → 1 ≤ i → i ≤ n → validStanding over n (s i) ≡ true) → Within (13 * n + 21) (writtenText lineFields (ruleLines k s n))
-  unfolding ruleLines totalOf
-  rule-within f =
-      let t = totals-small s n refl in
-      rw (written-append lineFields (activationLines k s n) _, written-one lineFields _)
-      (within-append (positions-within n few f) (total-within k _ _ _ rule (omega (arith, t .activations)) (omega (arith, t .fulfilled)) (omega (arith, t .violated))))
+rule-within : (over : Bool) (n k : ℕ) → n < 1000 → k < 100 → (s : ℕ → Standing) → ((i : ℕ) → 1 ≤ i → i ≤ n → validStanding over n (s i) ≡ true) → Within (13 * n + 21) (writtenText lineFields (ruleLines k s n))
+unfolding ruleLines activationLines totalOf
+rule-within over n k few rule s f =
+    let t = totals-small s n refl in
+    rw (written-append lineFields (activationLines k s n) _, written-one lineFields _)
+    (within-append (up-to-within 13 _ n (λ i a b. position-within over n k i (s i) few rule (omega arith) (f i a b))) (total-within k _ _ _ rule (omega (arith, t .activations)) (omega (arith, t .fulfilled)) (omega (arith, t .violated))))
 
 -- ---- a run
 
@@ -91,14 +95,9 @@ module _ (r : Run) (valid : validRun r ≡ true) where
       let p = valid-parts r valid in
       at-valid (r .closed) (r .count) i (standingAt r k i) (standings-each (r .closed) (r .table .count) (r .count) (r .cells) (p .standings) k i a b c (omega (arith, p .events-fit)))
 
-  rules-within : (k : ℕ) → k ≤ r .table .count → Within (3349 * k) (writtenText lineFields (rulesLines r k))
-  unfolding rulesLines writtenText
-  rules-within zero h = within-none 0
-  rules-within (suc k) h =
-      let p = valid-parts r valid in
-      rw (written-append lineFields (rulesLines r k) _)
-      (within-most (omega (arith, p .events-fit)) (within-append (rules-within k (omega arith)) (rule-within (r .closed) (r .count) (suc k) (omega (arith, p .events-fit)) (omega (arith, p .rules-fit)) (standingAt r (suc k)) (λ i a b. may-stand (suc k) i (omega arith) h a b))))
-
   pub report-within : Within printedBytes (reportOf r)
   unfolding reportOf reportLines
-  report-within = within-most (omega (arith, valid-parts r valid .rules-fit)) (rules-within (r .table .count) (omega arith))
+  report-within =
+      let p = valid-parts r valid in
+      within-most (omega (arith, p .rules-fit))
+      (up-to-within 3349 _ (r .table .count) (λ k a b. within-most (omega (arith, p .events-fit)) (rule-within (r .closed) (r .count) k (omega (arith, p .events-fit)) (omega (arith, p .rules-fit)) (standingAt r k) (λ i c d. may-stand k i a b c d))))

@@ -9,7 +9,7 @@ use Rattle.standings.specs.declared.totals.Totals.{Totals}
 use Rattle.standings.specs.Totals.{totalsBy}
 use Rattle.run.specs.declared.Run.{Run}
 use Rattle.run.specs.Records.{standingAt}
-use Rattle.line.specs.Texts.{writtenLine, writtenText}
+use Rattle.line.specs.Texts.{writtenText}
 use Rattle.notebook.specs.declared.Text.{Text}
 use Rattle.notebook.specs.declared.Text.the-variants.{Rules, Cycle}
 use Rattle.notebook.specs.Notebook.{Reply, readAs, notRead, notebookOf}
@@ -24,10 +24,14 @@ positionLines k i Open = activationLine k i letterO 0 ∷ []
 positionLines k i (Fulfilled j) = activationLine k i letterF j ∷ []
 positionLines k i (Violated j) = activationLine k i letterV j ∷ []
 
--- "a line per activation in order of position": the positions 1 to n, whose standings are s
+-- the lines of 1 to n, one after another
+unfoldable pub linesUpTo : (ℕ → List PrintedLine) → ℕ → List PrintedLine
+linesUpTo f zero = []
+linesUpTo f (suc n) = linesUpTo f n ++ f (suc n)
+
+-- "a line per activation in order of position": of the positions 1 to n, whose standings are s
 unfoldable pub activationLines : ℕ → (ℕ → Standing) → ℕ → List PrintedLine
-activationLines k s zero = []
-activationLines k s (suc n) = activationLines k s n ++ positionLines k (suc n) (s (suc n))
+activationLines k s n = linesUpTo (λ i. positionLines k i (s i)) n
 
 unfoldable pub totalOf : ℕ → Totals → PrintedLine
 totalOf k t = totalLine k (t .activations) (t .fulfilled) (t .violated)
@@ -36,13 +40,9 @@ totalOf k t = totalLine k (t .activations) (t .fulfilled) (t .violated)
 unfoldable pub ruleLines : ℕ → (ℕ → Standing) → ℕ → List PrintedLine
 ruleLines k s n = activationLines k s n ++ (totalOf k (totalsBy s n) ∷ [])
 
--- "rule by rule": the first k rules of a run
-unfoldable pub rulesLines : Run → ℕ → List PrintedLine
-rulesLines r zero = []
-rulesLines r (suc k) = rulesLines r k ++ ruleLines (suc k) (standingAt r (suc k)) (r .count)
-
+-- "rule by rule"
 unfoldable pub reportLines : Run → List PrintedLine
-reportLines r = rulesLines r (r .table .count)
+reportLines r = linesUpTo (λ k. ruleLines k (standingAt r k) (r .count)) (r .table .count)
 
 unfoldable pub reportOf : Run → List ℕ
 reportOf r = writtenText lineFields (reportLines r)

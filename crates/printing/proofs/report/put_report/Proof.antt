@@ -2,25 +2,25 @@
 use mathlib.Core.Path.{_≡_, refl, ap}
 use Prim.Native.Nat.{ℕ, _-_, _≤_}
 use native.Mathlib.Omega.{arith}
+use Rattle.run.specs.Records.{standingAt}
 use Rattle.line.specs.Texts.{writtenText}
-use Rattle.buffer.specs.Puts.{Puts}
 use Rattle.buffer.proofs.Puts.{puts-length, puts-as}
 use Rattle.printing.specs.Lines.{lineFields}
-use Rattle.printing.specs.Report.{rulesLines, reportLines, reportOf}
-use Rattle.printing.proofs.Rules.{no-rule, next-rule}
+use Rattle.printing.specs.Report.{linesUpTo, ruleLines, reportLines, reportOf}
+use Rattle.printing.proofs.Rules.{PutLines, put-none, put-next, row-lines}
 use borrow.Author.Needs.{needs}
 use Rattle.printing.proofs.report.put_report.Statement.{statement}
 use Rattle.printing.proofs.report.put_report.Tie as tie
 
 abbrev Inv-loop : tie.InvT-loop
 Inv-loop out₀ run cells at₀ k₀ k-end out at k =
-    (k ≤ k-end) × (k-end ≡ run .table .count) × (cells ≡ run .cells) × Puts (writtenText lineFields (rulesLines run k)) out₀ 0 out at
+    (k ≤ k-end) × (k-end ≡ run .table .count) × (cells ≡ run .cells) × PutLines (linesUpTo (λ k. ruleLines k (standingAt run k) (run .count)) k) out₀ 0 out at
 
 abbrev μ-loop : tie.MeasureT-loop
 μ-loop out₀ run cells at₀ k₀ k-end out at k = k-end - k
 
 loop-holds : tie.Need-loop-holds Inv-loop μ-loop
-loop-holds c = (omega arith, refl, refl, no-rule _ _)
+loop-holds c = (omega arith, refl, refl, put-none _ _ _)
 
 add-put-rule : tie.Need-add-put-rule Inv-loop μ-loop
 add-put-rule c = search needs
@@ -44,7 +44,7 @@ loop-again : tie.Need-loop-again Inv-loop μ-loop
 loop-again c =
     let put = c .before .before in
     let loop = put .before .before .before .loop in
-    (omega arith, loop .inv .1, loop .inv .2, next-rule _ (loop .k) (loop .inv .3) (rw (loop .inv .2) at (put .put-rule .ensures)))
+    (omega arith, loop .inv .1, loop .inv .2, put-next _ (loop .k) (loop .inv .3) (row-lines _ _ (loop .k) (rw (loop .inv .2) at (put .put-rule .ensures))))
 
 same-length : tie.Need-same-length Inv-loop μ-loop
 same-length c = puts-length (c .before .loop .inv .3)
@@ -55,7 +55,7 @@ returns c =
     let loop = c .before .loop in
     let run = c .before .before .before .before .args .run in
     let all : loop .k ≡ run .table .count = omega arith in
-    puts-as (ap (λ (k : ℕ). writtenText lineFields (rulesLines run k)) all) (loop .inv .3)
+    puts-as (ap (λ (k : ℕ). writtenText lineFields (linesUpTo (λ k. ruleLines k (standingAt run k) (run .count)) k)) all) (loop .inv .3)
 
 pub put-report-spec : {M : Type 1} → statement M
 put-report-spec =

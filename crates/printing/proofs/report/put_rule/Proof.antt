@@ -5,12 +5,9 @@ use native.Mathlib.Omega.{arith}
 use Rattle.standings.specs.Places.{standingFrom}
 use Rattle.standings.specs.Totals.{totalsBy}
 use Rattle.standings.proofs.Counts.{totals-none, next-place, totals-again}
-use Rattle.line.specs.Texts.{writtenText}
-use Rattle.buffer.specs.Puts.{Puts}
 use Rattle.buffer.proofs.Puts.{puts-length}
-use Rattle.printing.specs.Lines.{lineFields}
 use Rattle.printing.specs.Report.{activationLines}
-use Rattle.printing.proofs.Rules.{no-position, next-position, then-totals}
+use Rattle.printing.proofs.Rules.{PutLines, no-position, next-position, then-totals}
 use borrow.Author.Needs.{needs}
 use Rattle.printing.proofs.report.put_rule.Statement.{statement}
 use Rattle.printing.proofs.report.put_rule.Tie as tie
@@ -18,7 +15,7 @@ use Rattle.printing.proofs.report.put_rule.Tie as tie
 abbrev Inv-loop : tie.InvT-loop
 Inv-loop out₀ start rule first count cells at₀ totals₀ p₀ out at totals p =
     (p ≤ count)
-    × Puts (writtenText lineFields (activationLines rule (standingFrom cells first) p)) out₀ start out at
+    × PutLines (activationLines rule (standingFrom cells first) p) out₀ start out at
     × (totals ≡ totalsBy (standingFrom cells first) p)
 
 abbrev μ-loop : tie.MeasureT-loop
