@@ -4,6 +4,7 @@ use mathlib.Core.Path.{_≡_, refl, sym, ap, _∙_}
 use mathlib.Core.Bool.{Bool, true, false}
 use mathlib.Core.List.{List, _++_}
 use Prim.Native.Nat.{ℕ, _≤_, _<_}
+use native.Mathlib.Omega.{arith}
 use borrow.Author.Tests.{le-leb, lt-leb}
 use lib.Dec.{leb}
 use lib.ListN.{length, take, drop}
@@ -61,3 +62,11 @@ unfolding writeOf bufferAfter
 comes-out valid text before after answer v room w =
     let e : writeOf valid text before ≡ accepted (length text) = passed 11 _ v ∙ passed 15 _ (le-leb (length text) (length before) room) in
     (returned-length answer (length text) (w .answers ∙ e), w .leaves ∙ ap (bufferAfter text before) e)
+
+-- a buffer that has room is not too short
+pub never-short : (valid : Bool) (text buffer : List ℕ) → (valid ≡ true → length text ≤ length buffer) → writeOf valid text buffer ≡ refused 15 → ⊥
+unfolding writeOf require _>>_
+never-short false text buffer room e =
+    let z : _≡_ {A = ℕ} 11 15 = cc in
+    omega arith
+never-short true text buffer room e = no-of (sym (rw (le-leb (length text) (length buffer) (room refl)) at e))

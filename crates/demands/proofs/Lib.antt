@@ -9,3 +9,7 @@ pub mod Demand1
 pub mod PrintBack
 pub mod Demand2
 pub mod Demand3
+mod Places
+mod Reports
+mod PrintedLines
+pub mod Printed

@@ -40,7 +40,7 @@ use Rattle.rule_text.proofs.RoundTrips.{valid-rules, round-trips as rules-trips
 use Rattle.buffer.specs.declared.WriteAnswer.{WriteAnswer}
 use Rattle.buffer.specs.declared.WriteAnswer.the-variants.{Written, Refused}
 use Rattle.buffer.specs.Writes.{writeOf, bufferAfter, writeAnswer, Writes}
-use Rattle.buffer.proofs.Writes.{written, comes-out}
+use Rattle.buffer.proofs.Writes.{written, comes-out, never-short}
 use Rattle.writer.specs.Writer.{WritesRules, WritesCycle}
 use Rattle.writer.proofs.Room.{rules-room, cycle-room}
 use Rattle.notebook.specs.Notebook.{readAs, notebookOf}
@@ -56,14 +56,6 @@ out : (valid : Bool) (text : List ℕ) → valid ≡ true → ComesOut text (Wri
 out valid text v before after answer room w =
     let p = comes-out valid text before after answer v room w in
     record { returned = p .0; left = p .1 }
-
--- a buffer that has room is not too short
-never-short : (valid : Bool) (text buffer : List ℕ) → (valid ≡ true → length text ≤ length buffer) → writeOf valid text buffer ≡ refused 15 → ⊥
-unfolding writeOf require _>>_
-never-short false text buffer room e =
-    let z = same e in
-    omega arith
-never-short true text buffer room e = no-of (sym (rw (le-leb (length text) (length buffer) (room refl)) at e))
 
 -- ---- a written text, read
 
