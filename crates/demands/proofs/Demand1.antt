@@ -2,7 +2,7 @@
 -- each line of a text (Lines), and a reader goes from line to line (Texts).
 use mathlib.Core.Path.{_≡_, refl, sym, ap, _∙_}
 use mathlib.Core.Logic.{_↔_}
-use mathlib.Core.Bool.{Bool, not, _&&_}
+use mathlib.Core.Bool.{Bool, true, not, _&&_}
 use mathlib.Core.List.{List, [], _∷_}
 use Prim.Native.Nat.{ℕ}
 use native.Mathlib.Omega.{arith}
@@ -39,7 +39,7 @@ use Rattle.rule_text.specs.Rules.{ruleAfter, rulesTextOf}
 use Rattle.rule_text.specs.Written.{rulesText}
 use Rattle.buffer.specs.declared.WriteAnswer.{WriteAnswer}
 use Rattle.buffer.specs.Writes.{writeOf, bufferAfter, writeAnswer, Writes}
-use Rattle.writer.specs.Writer.{writeRulesOf, writeCycleOf}
+use Rattle.printing.specs.Report.{reportOf, printedOf}
 use Rattle.line.proofs.Texts.{stop-all}
 use Rattle.notebook.specs.declared.Text.{Text}
 use Rattle.notebook.specs.declared.Text.the-variants.{Rules, Cycle}
@@ -121,6 +121,9 @@ has-write valid text buffer =
     rw (leb-not (length text) (length buffer))
     (has-one valid InvalidRecord 11 _ _ refl (has-unless (ltb (length buffer) (length text)) BufferTooShort 15 _ [] refl (has-none _)))
 
+refuses-write : (valid : Bool) (text buffer : List ℕ) → Refuses (writeCauses valid text buffer) (writeOf valid text buffer)
+refuses-write valid text buffer = refuses (writeOf valid text buffer) (writeCauses valid text buffer) (has-write valid text buffer)
+
 buffer-kept : (valid : Bool) (text before after : List ℕ) (answer : WriteAnswer) (n : ℕ) → Writes valid text before after answer → writeAnswer answer ≡ refused n → after ≡ before
 unfolding bufferAfter
 buffer-kept valid text before after answer n w e =
@@ -194,8 +197,10 @@ demand1 =
       totals = λ r rule. refuses (totalsOf r rule) (totalsCauses r rule) (has-totals r rule);
       absorb = λ r rule t. refuses (absorbOf r rule t) (absorbCauses r rule t) (has-absorb r rule t);
       absorbs = absorb-counted;
-      write-rules = λ t buffer. refuses (writeRulesOf t buffer) (writeCauses (validTable t) (rulesText (rulesOf t)) buffer) (has-write (validTable t) (rulesText (rulesOf t)) buffer);
-      write-cycle = λ r buffer. refuses (writeCycleOf r buffer) (writeCauses (validRun r) (eventsText (eventsOf r)) buffer) (has-write (validRun r) (eventsText (eventsOf r)) buffer);
+      write-rules = λ t buffer. refuses-write (validTable t) (rulesText (rulesOf t)) buffer;
+      write-cycle = λ r buffer. refuses-write (validRun r) (eventsText (eventsOf r)) buffer;
+      write-report = λ r buffer. refuses-write (validRun r) (reportOf r) buffer;
+      print-texts = λ rules cycle buffer. refuses-write true (printedOf rules cycle) buffer;
       take-keeps = λ r e n p. after-refused r (takeOf r e) n p;
       close-keeps = λ r n p. after-refused r (closeOf r) n p;
       tally-keeps = λ r rule t n p. after-refused t (absorbOf r rule t) n p;

@@ -37,7 +37,7 @@ use Rattle.line.specs.Fields.{LF, tab}
 use Rattle.line.specs.Texts.{All, writtenText}
 use Rattle.line.proofs.Joined.{lacks}
 use Rattle.line.proofs.Values.{lacks-number}
-use Rattle.line.proofs.Texts.{all-all, Parted}
+use Rattle.line.proofs.Texts.{all-all, written-one, Parted}
 use Rattle.cycle_text.specs.Cycle.{cycleTextOf}
 use Rattle.rule_text.specs.Rules.{rulesTextOf}
 use Rattle.notebook.specs.declared.Text.{Text}
@@ -335,3 +335,49 @@ module _ (rules cycle : List ℕ) where
         others = λ p h. (let a = at-some ls p (rw (← line-count ls parts) h) in (a .0, line-is ls parts p (a .0) (a .1)));
         order = λ p q l m h a b. s .order p q l m h (is-line ls parts p l a) (is-line ls parts q m b);
       }
+
+-- ---- how much is printed
+
+few-number : (ns : List ℕ) (n : ℕ) → all (λ m. leb m 12) ns ≡ true → any (eqb n) ns ≡ true → n ≤ 12
+unfolding all any
+few-number [] n h e = absurd (true≢false (sym e))
+few-number (m ∷ ns) n h e = go (eqb n m) refl (few-number ns n (p .1))
+  where
+    p : (leb m 12 ≡ true) × (all (λ m. leb m 12) ns ≡ true)
+    p = and₂ h
+
+    go : (t : Bool) → eqb n m ≡ t → (any (eqb n) ns ≡ true → n ≤ 12) → n ≤ 12
+    go true x f = omega (arith, eqb-true n m x, leb-true m 12 (p .0))
+    go false x f = f (rw x at e)
+
+report-few : (r : Run) → validRun r ≡ true → length (writtenText lineFields (reportLines r)) ≤ printedBytes
+unfolding reportOf
+report-few r v = report-within r v .most
+
+module _ (rules cycle : List ℕ) where
+  refused-number : (text : Text) (n line : ℕ) → notebookOf rules cycle ≡ notRead text n line → n ≤ 12
+  unfolding all
+  refused-number Rules n line e =
+      few-number _ n refl (demand1 .rules-text rules .numbered n line (demand1 .notebook rules cycle .refuses-rules n line .0 e))
+  refused-number Cycle n line e =
+      few-number _ n refl (demand1 .cycle-text cycle .numbered n line (demand1 .notebook rules cycle .refuses-cycle n line .0 e .1))
+
+  printed-few : length (printedOf rules cycle) ≤ printedBytes
+  unfolding printedOf printedLines
+  printed-few = go (notebookOf rules cycle) refl
+    where
+      go : (reply : Reply) → notebookOf rules cycle ≡ reply → length (writtenText lineFields (replyLines reply)) ≤ printedBytes
+      go (readAs r) e = unfold replyLines in report-few r (read-valid rules cycle r e)
+      go (notRead text n line) e =
+          let a = refused-number text n line e in
+          let b = refused-at rules cycle text n line e in
+          let c = refused-within text n line (omega arith) (omega arith) .most in
+          unfold replyLines in rw (written-one lineFields (refusedLine (wordOf text) n line)) (omega arith)
+
+pub printed : Printed
+printed =
+    record {
+      right = λ rules cycle before after n w. rw (written true _ before after n (w .writes) .1) (printed-right rules cycle);
+      texts-room = λ rules cycle buffer h. never-short true (printedOf rules cycle) buffer (λ v. (let l = printed-few rules cycle in omega arith));
+      report-room = λ r buffer h. never-short (validRun r) (reportOf r) buffer (λ v. (let l = report-within r v .most in omega arith));
+    }

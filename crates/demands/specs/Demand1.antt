@@ -38,6 +38,8 @@ use Rattle.rule_text.specs.Written.{rulesText}
 use Rattle.buffer.specs.declared.WriteAnswer.{WriteAnswer}
 use Rattle.buffer.specs.Writes.{writeAnswer, Writes}
 use Rattle.writer.specs.Writer.{writeRulesOf, writeCycleOf}
+use Rattle.printing.specs.Report.{reportOf, printedOf}
+use Rattle.printing.specs.Printing.{writeReportOf, printTextsOf}
 use Rattle.notebook.specs.declared.Text.the-variants.{Rules, Cycle}
 use Rattle.notebook.specs.Notebook.{readAs, notRead, notebookOf}
 use Rattle.demands.specs.Causes.{Cause, cause, First, noneHolds}
@@ -122,13 +124,18 @@ pub record Demand1 : Type 0 where
       → Refuses (writeCauses (validTable t) (rulesText (rulesOf t)) buffer) (writeRulesOf t buffer)
   pub write-cycle : (r : Run) (buffer : List ℕ)
       → Refuses (writeCauses (validRun r) (eventsText (eventsOf r)) buffer) (writeCycleOf r buffer)
+  pub write-report : (r : Run) (buffer : List ℕ)
+      → Refuses (writeCauses (validRun r) (reportOf r) buffer) (writeReportOf r buffer)
+  -- of two texts 15 alone; a refused text is printed as such
+  pub print-texts : (rules cycle buffer : List ℕ)
+      → Refuses (writeCauses true (printedOf rules cycle) buffer) (printTextsOf rules cycle buffer)
   -- "a refusal alters neither run nor tally nor any lent buffer"
   pub take-keeps : (r : Run) (e : Event) (n : ℕ) → takeOf r e ≡ refused n → afterCall r (takeOf r e) ≡ r
   pub close-keeps : (r : Run) (n : ℕ) → closeOf r ≡ refused n → afterCall r (closeOf r) ≡ r
   pub tally-keeps : (r : Run) (rule : ℕ) (t : Tally) (n : ℕ)
       → absorbOf r rule t ≡ refused n
       → afterCall t (absorbOf r rule t) ≡ t
-  -- the buffer at exit, by the contract of both calls that write
+  -- the buffer at exit, by the contract of the calls that write
   pub buffer-keeps : (valid : Bool) (text before after : List ℕ) (answer : WriteAnswer) (n : ℕ)
       → Writes valid text before after answer
       → writeAnswer answer ≡ refused n
