@@ -2,3 +2,4 @@
 pub mod Rules
 pub mod Room
 pub mod Texts
+pub mod Cases
