@@ -21,7 +21,7 @@ use Rattle.declare.specs.Steps.{Cycle, taken}
 use Rattle.declare.proofs.Booleans.{and₃, and₄}
 use Rattle.declare.proofs.Words.{judged}
 use Rattle.declare.proofs.Exactness.{verdict-active}
-use Rattle.declare.proofs.Tables.{rule-valid, table-slots, table-valid}
+use Rattle.declare.proofs.Tables.{rule-valid}
 use Rattle.declare.proofs.Steps.{cycle-of-taken, taken-cycle}
 use Rattle.formula.specs.Formula.{Formula}
 use Rattle.formula.specs.Table.{fixedOf, publishedOf}
@@ -35,10 +35,9 @@ use Rattle.run.specs.Takes.{grown, Answers, finished}
 use Rattle.run.proofs.Takes.{takes}
 use Rattle.run.proofs.Grown.{finished-is-grown}
 use Rattle.cycle_text.proofs.RoundTrips.{round-trips as cycle-trips}
-use Rattle.rule_text.specs.Written.{ValidRules}
-use Rattle.rule_text.proofs.RoundTrips.{round-trips as rules-trips}
 use Rattle.notebook.specs.Notebook.{readAs, notebookOf}
 use Rattle.notebook.proofs.Replies.{accepted-texts}
+use Rattle.notebook.proofs.Read.{read-table, read-slots}
 use Rattle.demands.specs.Demand2.{Decides, FollowsFormulas, Demand2Grown, Demand2Read}
 use Rattle.demands.proofs.Standings.{stands-as, stands-so, stands-fulfilled, stands-violated}
 
@@ -92,17 +91,14 @@ demand2-grown t offered slots valid =
 pub demand2-read : Demand2Read
 demand2-read rulesText cycleText rules es p q = (closedRun (grown (tableOf rules) es), read, follows (tableOf rules) es (closedRun (grown (tableOf rules) es)) slots valid cycle answers)
   where
-    rules-valid : ValidRules rules
-    rules-valid = rules-trips .valid rulesText rules p .0
-
     cycle : Cycle es
     cycle = cycle-trips .valid cycleText es q
 
     slots : length (tableOf rules .rules) ≡ mostRules
-    slots = table-slots rules (rules-valid .most)
+    slots = read-slots rulesText rules p
 
     valid : validTable (tableOf rules) ≡ true
-    valid = table-valid rules (rules-valid .most) (rules-valid .valid)
+    valid = read-table rulesText rules p
 
     answers : Answers (tableOf rules) es (finished es) (closedRun (grown (tableOf rules) es))
     answers =

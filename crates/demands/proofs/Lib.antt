@@ -12,4 +12,5 @@ pub mod Demand3
 mod Places
 mod Reports
 mod PrintedLines
+mod RightLines
 pub mod Printed

@@ -2,7 +2,7 @@
 use mathlib.Core.Path.{_≡_, refl, sym, subst}
 use mathlib.Core.Logic.{_⊎_, inl, inr}
 use mathlib.Core.List.{List, [], _∷_, _++_, map}
-use Prim.Native.Nat.{ℕ, zero, suc, _+_, _≤_, _<_}
+use Prim.Native.Nat.{ℕ, zero, suc, _+_, _<_}
 use native.Mathlib.Nat.{zero-add}
 use native.Mathlib.Omega.{arith}
 use lib.ListN.{length, getD}
@@ -61,3 +61,6 @@ at-none a = let h = at-below a in omega arith
 pub at-single : {A : Type 0} {x y : A} {p : ℕ} → At (x ∷ []) p y → x ≡ y
 at-single here = refl
 at-single (there a) = absurd (at-none a)
+
+pub same-first : {A : Type 0} {x y : A} → x ∷ [] ≡ y ∷ [] → x ≡ y
+same-first e = cc

@@ -1,28 +1,23 @@
 -- The calls that write promise an equation with the written text. Reading and writing undo each
 -- other on texts (RoundTrips), and the calls that read promise what their text holds.
-use mathlib.Core.Path.{_≡_, refl, sym, ap, subst, _∙_}
-use mathlib.Core.Bool.{Bool, true, false}
-use mathlib.Core.List.{List, _++_, map}
-use Prim.Native.Nat.{ℕ, _≤_}
+use mathlib.Core.Path.{_≡_, ap, subst, _∙_}
+use mathlib.Core.Bool.{Bool, true}
+use mathlib.Core.List.{List, map}
+use Prim.Native.Nat.{ℕ}
 use native.Mathlib.Omega.{arith}
-use borrow.Author.Tests.{le-leb}
-use lib.Dec.{leb}
-use lib.ListN.{length, take, drop}
-use lib.Seq.{take-at}
+use lib.ListN.{length, take}
 use Rattle.declare.specs.declared.Event.{Event}
 use Rattle.declare.specs.declared.Rule.{Rule}
 use Rattle.declare.specs.declared.Table.{Table}
 use Rattle.declare.specs.Rules.{rulesOf, validTable}
 use Rattle.declare.specs.Slots.{eventSlots, tableOf}
-use Rattle.declare.specs.Answers.{accepted, refused, _>>_, require}
-use Rattle.declare.proofs.Answers.{no-of, of-of, required, passed}
-use Rattle.declare.proofs.Tables.{table-rules, table-slots, table-valid}
+use Rattle.declare.proofs.Tables.{table-rules}
 use Rattle.run.specs.declared.Run.{Run}
 use Rattle.run.specs.Records.{eventsOf, validRun}
 use Rattle.run.specs.Start.{newRun}
 use Rattle.run.specs.Close.{finishedRun}
 use Rattle.run.proofs.Answered.{valid-cycle}
-use Rattle.run.proofs.Grown.{finished-events, finished-valid}
+use Rattle.run.proofs.Grown.{finished-events}
 use Rattle.line.specs.declared.Outcome.the-variants.{Accepted}
 use Rattle.line.specs.Texts.{All}
 use Rattle.cycle_text.specs.declared.CycleRead.{CycleRead}
@@ -33,13 +28,12 @@ use Rattle.cycle_text.proofs.Accepted.{accepted-events, events-read}
 use Rattle.cycle_text.proofs.RoundTrips.{round-trips as cycle-trips}
 use Rattle.rule_text.specs.declared.RulesRead.{RulesRead}
 use Rattle.rule_text.specs.Rules.{rulesTextOf}
-use Rattle.rule_text.specs.Written.{ValidRules, rulesText, canonical, rewritten}
+use Rattle.rule_text.specs.Written.{rulesText, canonical, rewritten}
 use Rattle.rule_text.specs.Reads.{ReadsRules}
 use Rattle.rule_text.proofs.Accepted.{accepted-rules, rules-read}
 use Rattle.rule_text.proofs.RoundTrips.{valid-rules, round-trips as rules-trips}
-use Rattle.buffer.specs.declared.WriteAnswer.{WriteAnswer}
-use Rattle.buffer.specs.declared.WriteAnswer.the-variants.{Written, Refused}
-use Rattle.buffer.specs.Writes.{writeOf, bufferAfter, writeAnswer, Writes}
+use Rattle.buffer.specs.declared.WriteAnswer.the-variants.{Written}
+use Rattle.buffer.specs.Writes.{Writes}
 use Rattle.buffer.proofs.Writes.{written, comes-out, never-short}
 use Rattle.writer.specs.Writer.{WritesRules, WritesCycle}
 use Rattle.writer.proofs.Room.{rules-room, cycle-room}
@@ -47,7 +41,6 @@ use Rattle.notebook.specs.Notebook.{readAs, notebookOf}
 use Rattle.notebook.proofs.Read.{read-from, read-table, read-valid}
 use Rattle.demands.specs.PrintBack.{ComesOut, PrintBack}
 use Rattle.demands.proofs.Chains.{same}
-use Rattle.demands.proofs.Demand1.{demand1}
 
 -- ---- a text and a buffer
 

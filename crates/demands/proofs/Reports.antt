@@ -1,6 +1,6 @@
 -- The lines of a run's report: which there are, and that they stand in order. A line has a rank, by
 -- its rule and its position, the total past all positions; one after another the ranks rise.
-use mathlib.Core.Path.{_≡_, refl, sym, ap, _∙_}
+use mathlib.Core.Path.{_≡_, refl, ap}
 use mathlib.Core.Logic.{_⊎_, inl, inr}
 use mathlib.Core.Bool.{Bool, true, false}
 use mathlib.Core.List.{List, [], _∷_, _++_}

@@ -1,4 +1,7 @@
 // Files and standard output, for the programs that print.
+ghost use mathlib.Core.Path.{_≡_};
+ghost use mathlib.Core.Bool.{true};
+ghost use lib.ListN.{length};
 ghost use Rattle.io.specs.Counts.{Counts};
 use declare::Refusal;
 use declare::number_of;
@@ -22,7 +25,7 @@ fn at_end(fd: i32) -> bool {
 }
 
 // A file that is absent, cannot be read or does not fit is not read whole.
-pub fn read_file(name: &[u8], text: &mut [u8; FILE_BYTES]) -> FileRead
+fn read_file(name: &[u8], text: &mut [u8; FILE_BYTES]) -> FileRead
     ensures { λ r. ⌜ Counts (r .length) (now (text .exit)) ⌝ }
 {
     let fd = os::open_read(name);
@@ -38,17 +41,36 @@ pub fn read_file(name: &[u8], text: &mut [u8; FILE_BYTES]) -> FileRead
     FileRead { whole, length }
 }
 
-// All of the bytes on standard output; if that fails, a line on standard error, because a list that
-// is cut looks like a whole one.
-pub fn print(bytes: &[u8]) {
-    if !io::write_all(1, bytes) {
+// All of the bytes on standard output, and whether that could be done; if not, a line on standard
+// error says so, because a list that is cut looks like a whole one.
+pub fn print(bytes: &[u8]) -> bool
+    ensures { λ r. ⌜ (length (now (bytes .entry)) ≡ 0 → r ≡ true) ⌝ }
+{
+    if bytes.len() == 0 {
+        return true;
+    }
+    let whole = io::write_all(1, bytes);
+    if !whole {
         os::fail(b"standard output could not be written in full");
     }
+    whole
 }
 
-// The line of a file that is not read whole; `word` is that of its text.
-pub fn print_unread(word: &[u8]) {
+// The line of a file that is not read whole, refused with 13.
+fn print_unread(word: &[u8]) {
     let mut line = [0u8; 64];
     let length = put_refused(&mut line, word, number_of(Refusal::NoFile), 0);
     print(&line[..length]);
+}
+
+// The file of that name. If it is not read whole, its refusal is printed, with the word of its
+// text.
+pub fn read_text(name: &[u8], word: &[u8], text: &mut [u8; FILE_BYTES]) -> FileRead
+    ensures { λ r. ⌜ Counts (r .length) (now (text .exit)) ⌝ }
+{
+    let read = read_file(name, text);
+    if !read.whole {
+        print_unread(word);
+    }
+    read
 }

@@ -24,7 +24,7 @@ use Rattle.rule_text.specs.Rules.{rulesTextOf}
 use Rattle.rule_text.specs.Written.{ValidRules}
 use Rattle.rule_text.proofs.RoundTrips as rule-text
 use Rattle.notebook.specs.Types.{Text}
-use Rattle.notebook.specs.Notebook.{Reply, readAs, notRead, readWith, finishedOf, notebookOf}
+use Rattle.notebook.specs.Notebook.{readAs, notRead, readWith, finishedOf, notebookOf}
 
 same-run : {q r : Run} → readAs q ≡ readAs r → q ≡ r
 same-run e = cc

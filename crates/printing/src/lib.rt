@@ -10,7 +10,7 @@ use run::Run;
 use run::record::valid_run;
 
 mod activation; // activation.rt: the lines of activations
-mod report; // report.rt: the lines of rules
+mod rules; // rules.rt: the lines of rules
 pub mod refused; // refused.rt: the line of a refusal
 
 // The most bytes that are printed.
@@ -24,7 +24,7 @@ pub fn write_report(run: Run, out: &mut [u8]) -> WriteAnswer
         return WriteAnswer::Refused(Refusal::InvalidRecord);
     }
     let mut text = [0u8; PRINTED_BYTES];
-    let length = report::put_report(&mut text, run);
+    let length = rules::put_report(&mut text, run);
     write(&text[..length], out)
 }
 

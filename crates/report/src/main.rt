@@ -38,9 +38,8 @@ fn print(rules: &[u8], cycle: &[u8]) {
 
 fn read_cycle(rules: &[u8]) {
     let mut cycle = [0u8; FILE_BYTES];
-    let read = files::read_file(b"cycle.tsv", &mut cycle);
+    let read = files::read_text(b"cycle.tsv", b"cycle", &mut cycle);
     if !read.whole {
-        files::print_unread(b"cycle");
         return;
     }
     let end = read.length;
@@ -49,9 +48,8 @@ fn read_cycle(rules: &[u8]) {
 
 fn main() {
     let mut text = [0u8; FILE_BYTES];
-    let read = files::read_file(b"rules.tsv", &mut text);
+    let read = files::read_text(b"rules.tsv", b"rules", &mut text);
     if !read.whole {
-        files::print_unread(b"rules");
         return;
     }
     let end = read.length;

@@ -7,10 +7,10 @@ use Rattle.line.specs.Texts.{writtenText}
 use Rattle.buffer.proofs.Puts.{puts-length, puts-as}
 use Rattle.printing.specs.Lines.{lineFields}
 use Rattle.printing.specs.Report.{linesUpTo, ruleLines, reportLines, reportOf}
-use Rattle.printing.proofs.Rules.{PutLines, put-none, put-next, row-lines}
+use Rattle.printing.proofs.Lines.{PutLines, put-none, put-next, row-lines}
 use borrow.Author.Needs.{needs}
-use Rattle.printing.proofs.report.put_report.Statement.{statement}
-use Rattle.printing.proofs.report.put_report.Tie as tie
+use Rattle.printing.proofs.rules.put_report.Statement.{statement}
+use Rattle.printing.proofs.rules.put_report.Tie as tie
 
 abbrev Inv-loop : tie.InvT-loop
 Inv-loop out₀ run cells at₀ k₀ k-end out at k =

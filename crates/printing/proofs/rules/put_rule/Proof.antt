@@ -1,16 +1,16 @@
 -- The loop has put the lines of the positions passed, and has their totals.
 use mathlib.Core.Path.{_≡_, refl, _∙_}
-use Prim.Native.Nat.{_+_, _-_, _≤_}
+use Prim.Native.Nat.{_-_, _≤_}
 use native.Mathlib.Omega.{arith}
 use Rattle.standings.specs.Places.{standingFrom}
 use Rattle.standings.specs.Totals.{totalsBy}
 use Rattle.standings.proofs.Counts.{totals-none, next-place, totals-again}
 use Rattle.buffer.proofs.Puts.{puts-length}
 use Rattle.printing.specs.Report.{activationLines}
-use Rattle.printing.proofs.Rules.{PutLines, no-position, next-position, then-totals}
+use Rattle.printing.proofs.Lines.{PutLines, no-position, next-position, then-totals}
 use borrow.Author.Needs.{needs}
-use Rattle.printing.proofs.report.put_rule.Statement.{statement}
-use Rattle.printing.proofs.report.put_rule.Tie as tie
+use Rattle.printing.proofs.rules.put_rule.Statement.{statement}
+use Rattle.printing.proofs.rules.put_rule.Tie as tie
 
 abbrev Inv-loop : tie.InvT-loop
 Inv-loop out₀ start rule first count cells at₀ totals₀ p₀ out at totals p =

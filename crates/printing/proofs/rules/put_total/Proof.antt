@@ -4,8 +4,8 @@ use Rattle.buffer.proofs.Lines.{puts-line}
 use Rattle.printing.specs.Lines.{lineFields}
 use Rattle.printing.specs.Report.{totalOf}
 use borrow.Author.Needs.{needs}
-use Rattle.printing.proofs.report.put_total.Statement.{statement}
-use Rattle.printing.proofs.report.put_total.Tie as tie
+use Rattle.printing.proofs.rules.put_total.Statement.{statement}
+use Rattle.printing.proofs.rules.put_total.Tie as tie
 
 slice-aggregate-put-bytes : tie.Need-slice-aggregate-put-bytes
 slice-aggregate-put-bytes c = search needs
