@@ -46,7 +46,7 @@ fn put_report(out: &mut [u8]) -> Result<usize, Cause> {
     print_texts(rules, cycle, out)
 }
 
-/// If standard output cannot be written, the program stops without a word, as `report` does.
+/// Unlike `report`, it does not say so if standard output cannot be written.
 pub fn report() {
     let mut out = [0; PRINTED_BYTES];
     if let Ok(length) = put_report(&mut out) {

@@ -246,7 +246,8 @@ module _ (rules cycle : List ℕ) where
 pub printed : Printed
 printed =
     record {
-      right = λ rules cycle before after n w. rw (written true _ before after n (w .writes) .1) (printed-right rules cycle);
+      right = printed-right;
+      written = λ rules cycle before after n w. written true _ before after n (w .writes) .1;
       texts-room = λ rules cycle buffer h. never-short true (printedOf rules cycle) buffer (λ v. (let l = printed-few rules cycle in omega arith));
       report-room = λ r buffer h. never-short (validRun r) (reportOf r) buffer (λ v. (let l = report-within r v .most in omega arith));
     }

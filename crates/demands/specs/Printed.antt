@@ -1,6 +1,6 @@
 -- What `report` prints, in words: of two accepted texts the verdicts of demand 2 and their counts,
--- of refused ones the text, number and line of demand 1. Of the call print_texts by its contract,
--- whatever it is handed; the lines are those of the printed bytes.
+-- of refused ones the text, number and line of demand 1. The lines are those of the printed bytes,
+-- which by its contract print_texts writes and `report` hands to standard output.
 use mathlib.Core.Path.{_≡_}
 use mathlib.Core.Logic.{_↔_, _⊎_}
 use mathlib.Core.Bool.{true, false}
@@ -29,7 +29,7 @@ use Rattle.notebook.specs.declared.Text.{Text}
 use Rattle.notebook.specs.Notebook.{notRead, notebookOf}
 use Rattle.buffer.specs.declared.WriteAnswer.the-variants.{Written}
 use Rattle.printing.specs.Lines.{PrintedLine, activationLine, totalLine, refusedLine, letterF, letterV, lineFields}
-use Rattle.printing.specs.Report.{wordOf}
+use Rattle.printing.specs.Report.{wordOf, printedOf}
 use Rattle.printing.specs.Printing.{printedBytes, writeReportOf, printTextsOf, PrintsTexts}
 use Rattle.demands.specs.Texts.{Line, linesOf}
 use Rattle.demands.specs.Demand2.{InCycle}
@@ -100,10 +100,9 @@ pub record PrintedRight (rules cycle text : List ℕ) : Type 0 where
 
 -- proved as `printed`
 pub record Printed : Type 0 where
-  -- of the first n bytes of the buffer, n the length returned
-  pub right : (rules cycle before after : List ℕ) (n : ℕ)
-      → PrintsTexts rules cycle before after (Written n)
-      → PrintedRight rules cycle (take n after)
+  pub right : (rules cycle : List ℕ) → PrintedRight rules cycle (printedOf rules cycle)
+  -- and print_texts has written it: the first n bytes of the buffer, n the length returned
+  pub written : (rules cycle before after : List ℕ) (n : ℕ) → PrintsTexts rules cycle before after (Written n) → take n after ≡ printedOf rules cycle
   -- a buffer of so many bytes is never too short, for any texts and any run
   pub texts-room : (rules cycle buffer : List ℕ) → printedBytes ≤ length buffer → printTextsOf rules cycle buffer ≡ refused 15 → ⊥
   pub report-room : (r : Run) (buffer : List ℕ) → printedBytes ≤ length buffer → writeReportOf r buffer ≡ refused 15 → ⊥
