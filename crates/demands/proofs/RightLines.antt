@@ -1,4 +1,4 @@
--- The lines of a run that was read are those that are right, because its standings are the verdicts.
+-- The lines of a run that was read are the right ones, because its standings are the verdicts.
 use mathlib.Core.Path.{_≡_, refl, sym, ap, subst, _∙_}
 use mathlib.Core.Logic.{_⊎_, inl, inr}
 use mathlib.Core.Bool.{Bool, true, false, not, cond, true≢false}

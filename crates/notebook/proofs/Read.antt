@@ -1,5 +1,5 @@
--- What stands behind a reply: of a run that was read, the rules and events of the two texts, so that
--- it is valid; of a refusal, a line that is reached.
+-- What stands behind a reply: of a run that was read, the rules and events of the two texts, so
+-- that it is valid; of a refusal, a line that is reached.
 use mathlib.Core.Path.{_≡_, refl, sym, ap, _∙_}
 use mathlib.Core.Bool.{true}
 use mathlib.Core.List.{List}

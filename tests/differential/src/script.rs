@@ -196,6 +196,18 @@ impl Session {
         }
     }
 
+    /// A session without a command: the table and the run are those that a script
+    /// begins with.
+    pub fn at_the_beginning(kind: &'static str, seed: u64) -> Session {
+        let table = new_table(0);
+        Session {
+            case: Case::new(kind, seed),
+            run: start(&table).expect("a valid table"),
+            table,
+            tally: Tally::default(),
+        }
+    }
+
     /// A session on the run that start gives for a valid table.
     pub fn started(kind: &'static str, seed: u64, table: &TableRecord) -> Session {
         let run = start(table).expect("a valid table");

@@ -6,14 +6,9 @@ use differential::command::{Command, LARGEST_TEXT};
 use differential::compare::agree;
 use differential::probe::Probe;
 use differential::script::{new_table, Case, Session};
+use evaluator::listing::{CYCLE, PRINTED, RULES};
 use evaluator::stored::stored_texts;
 use evaluator::{printed, Refusal};
-
-const RULES: &str = "2\t1\t2\t0\t500\t-\t-\n6\t3\t2\t0\t-\t-\t1=@1:0\n";
-const CYCLE: &str = "0\t1\t7\t-\t-\t-\n400\t2\t7\t-\t-\t-\n400\t3\t7\t-\t-\t-\n\
-    900\t3\t7\t-\t-\t-\n1000\t1\t7\t-\t-\t-\n1500\t2\t7\t-\t-\t-\n";
-const PRINTED: &str = "1\t1\tF\t2\n1\t5\tV\t0\ntotal\t1\t2\t1\t1\n\
-    2\t3\tF\t2\n2\t4\tV\t0\ntotal\t2\t2\t1\t1\n";
 
 /// How many of the cases print verdicts, a refusal of the rules and of the cycle,
 /// and how many have a text that is too large for a file.

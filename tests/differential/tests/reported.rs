@@ -5,9 +5,9 @@ use differential::cases::causes::{allowed, causes};
 use differential::cases::reported::{allowed_case, case, cause_case, grown_case, LISTED};
 use differential::compare::agree;
 use differential::probe::Probe;
-use differential::script::{new_table, Case, Session};
+use differential::script::{Case, Session};
 use evaluator::Standing::{self, Fulfilled, Open, Violated};
-use evaluator::{grown, start, Event, Record, Refusal, Rule};
+use evaluator::{grown, Event, Record, Refusal, Rule};
 
 #[test]
 fn random_runs() {
@@ -126,13 +126,7 @@ fn the_longest_reports_and_the_largest_buffers() {
 /// into every buffer. Without events a rule has its total alone.
 #[test]
 fn the_run_at_the_beginning_and_one_without_events() {
-    let table = new_table(0);
-    let mut session = Session {
-        case: Case::new(LISTED, 0),
-        run: start(&table).expect("a valid table"),
-        table,
-        tally: Default::default(),
-    };
+    let mut session = Session::at_the_beginning(LISTED, 0);
     for n in [0, 1, 100] {
         assert_eq!(session.write_report(n), Ok(0));
     }

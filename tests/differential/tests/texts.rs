@@ -7,10 +7,7 @@ use differential::command::LARGEST_TEXT;
 use differential::compare::agree;
 use differential::probe::Probe;
 use evaluator::damage::{EDGE_FIELDS, ODD_COMPARISONS};
-
-const RULES: &str = "2\t1\t2\t0\t500\t-\t-\n6\t3\t2\t0\t-\t-\t1=@1:0\n";
-const CYCLE: &str = "0\t1\t7\t-\t-\t-\n400\t2\t7\t-\t-\t-\n400\t3\t7\t-\t-\t-\n\
-    900\t3\t7\t-\t-\t-\n1000\t1\t7\t-\t-\t-\n1500\t2\t7\t-\t-\t-\n";
+use evaluator::listing::{CYCLE, RULES};
 
 #[test]
 fn random_rules_texts() {

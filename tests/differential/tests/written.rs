@@ -7,10 +7,10 @@ use differential::cases::written::{again_case, again_text_case, allowed_case};
 use differential::cases::written::{case, cause_case, grown_case};
 use differential::compare::agree;
 use differential::probe::Probe;
-use differential::script::{new_table, Case, Session};
+use differential::script::Session;
 use evaluator::stored::stored_texts;
 use evaluator::Operator::GreaterOrEqual;
-use evaluator::{grown, read_cycle, read_rules, start, Comparison, Event, Record, Refusal, Rule};
+use evaluator::{grown, read_cycle, read_rules, Comparison, Event, Record, Refusal, Rule};
 
 #[test]
 fn random_tables_and_runs() {
@@ -160,13 +160,7 @@ fn the_longest_texts_and_the_largest_buffers() {
 /// text goes into every buffer.
 #[test]
 fn the_table_and_the_run_at_the_beginning() {
-    let table = new_table(0);
-    let mut session = Session {
-        case: Case::new(LISTED, 0),
-        run: start(&table).expect("a valid table"),
-        table,
-        tally: Default::default(),
-    };
+    let mut session = Session::at_the_beginning(LISTED, 0);
     for n in [0, 1, 100] {
         assert_eq!(session.write_rules(n), Ok(0));
         assert_eq!(session.write_cycle(n), Ok(0));

@@ -33,13 +33,15 @@
 //! - [`damage`]: texts, valid and damaged.
 //! - [`fabricate`]: run records, grown and changed.
 //!
-//! Test cases in files:
+//! Test cases that are written out:
 //!
+//! - [`listing`]: document 01's.
 //! - [`stored`]: the texts of tests/cases and examples/.
 
 pub mod condition;
 pub mod damage;
 pub mod fabricate;
+pub mod listing;
 pub mod live;
 pub mod model;
 pub mod notebook;

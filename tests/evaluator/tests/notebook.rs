@@ -1,12 +1,9 @@
 //! The notebook reading: "takes both texts, rules first, and answers a closed
 //! run; its refusal also says which text".
 
+use evaluator::listing::{CYCLE, RULES};
 use evaluator::Standing::{Fulfilled, Idle, Violated};
 use evaluator::{grown, notebook, notebook_record, read_cycle, read_rules, Refusal, Text};
-
-const RULES: &str = "2\t1\t2\t0\t500\t-\t-\n6\t3\t2\t0\t-\t-\t1=@1:0\n";
-const CYCLE: &str = "0\t1\t7\t-\t-\t-\n400\t2\t7\t-\t-\t-\n400\t3\t7\t-\t-\t-\n\
-    900\t3\t7\t-\t-\t-\n1000\t1\t7\t-\t-\t-\n1500\t2\t7\t-\t-\t-\n";
 
 fn refused(rules: &str, cycle: &str) -> (Text, Refusal) {
     let refusal = notebook(rules.as_bytes(), cycle.as_bytes()).expect_err("a refusal");

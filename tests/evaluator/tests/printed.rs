@@ -4,19 +4,13 @@
 use evaluator::damage::{damaged_cycle_text, damaged_rules_text};
 use evaluator::damage::{random_cycle_text, random_rules_text};
 use evaluator::fabricate::{fill_unused, random_record};
+use evaluator::listing::{self, CAUSES, CYCLE, PRINTED, RULES};
 use evaluator::random::Random;
 use evaluator::stored::stored_texts;
-use evaluator::Operator::Equal;
 use evaluator::Standing::{self, Fulfilled, Idle, Open, Violated};
 use evaluator::{grown, notebook_record, place, start};
 use evaluator::{print_texts, printed, report, report_of, write_report_of};
-use evaluator::{Comparison, Event, Record, Refusal, Rule, TableRecord, Text};
-
-const RULES: &str = "2\t1\t2\t0\t500\t-\t-\n6\t3\t2\t0\t-\t-\t1=@1:0\n";
-const CYCLE: &str = "0\t1\t7\t-\t-\t-\n400\t2\t7\t-\t-\t-\n400\t3\t7\t-\t-\t-\n\
-    900\t3\t7\t-\t-\t-\n1000\t1\t7\t-\t-\t-\n1500\t2\t7\t-\t-\t-\n";
-const PRINTED: &str = "1\t1\tF\t2\n1\t5\tV\t0\ntotal\t1\t2\t1\t1\n\
-    2\t3\tF\t2\n2\t4\tV\t0\ntotal\t2\t2\t1\t1\n";
+use evaluator::{Event, Record, Refusal, Rule, TableRecord, Text};
 
 /// Always enough: 16 rules, each with 256 lines such as `16 256 F 256` and a
 /// total such as `total 16 256 128 128`.
@@ -27,14 +21,7 @@ const SHORT: Refusal = Refusal::plain(15);
 
 /// The first events of the listing, taken in turn.
 fn run_of(count: usize) -> Record {
-    let same = Comparison::with_activation(1, Equal, 1, 0);
-    let rules = [
-        Rule::new(2, 1, 2, 0, Some(500)),
-        Rule::new(6, 3, 2, 0, None).with_correlation(vec![same]),
-    ];
-    let events = [(0, 1), (400, 2), (400, 3), (900, 3), (1000, 1), (1500, 2)];
-    let events = events.map(|(time, activity)| Event::new(time, activity).with_reading(1, 7));
-    grown(&rules, &events[..count])
+    grown(&listing::rules(), &listing::events()[..count])
 }
 
 /// A run of so many rules and events with these standings, in order of rule and
@@ -201,24 +188,7 @@ fn no_rules_print_nothing() {
 /// 11 comes before 15 and leaves the buffer as it was, whatever its size.
 #[test]
 fn the_whole_run_is_checked() {
-    let changes: [fn(&mut Record); 12] = [
-        |run| run.standings[place(1, 1)] = Fulfilled(7),
-        |run| run.standings[place(2, 6)] = Violated(65_535),
-        |run| run.standings[place(1, 7)] = Open,
-        |run| run.standings[place(2, 256)] = Fulfilled(0),
-        |run| {
-            run.closed = true;
-            run.standings[place(1, 5)] = Open;
-        },
-        |run| run.table.count = 17,
-        |run| run.table.rules[0].end = Some(0),
-        |run| run.table.rules[1].correlation.count = 5,
-        |run| run.count = 257,
-        |run| run.count = (1 << 32) + 6,
-        |run| run.events[0].time = 401,
-        |run| run.events[3].activity = 65,
-    ];
-    for (number, change) in changes.into_iter().enumerate() {
+    for (number, change) in CAUSES.into_iter().enumerate() {
         let mut run = run_of(6);
         change(&mut run);
         for size in [0, PRINTED.len() - 1, PRINTED.len(), 200] {

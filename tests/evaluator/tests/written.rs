@@ -2,18 +2,15 @@
 //! "with the length returned and the bytes beyond it untouched".
 
 use evaluator::fabricate::{fill_unused, spread_numbers};
+use evaluator::listing::{self, CAUSES, CYCLE, RULES};
 use evaluator::random::{random_cycle, random_rules, Random};
 use evaluator::stored::stored_texts;
 use evaluator::Operator::{self, Equal, Greater, GreaterOrEqual, Less, LessOrEqual, NotEqual};
-use evaluator::Standing::{Fulfilled, Idle, Open, Violated};
+use evaluator::Standing::{Idle, Open, Violated};
 use evaluator::{grown, notebook_record, place, read_cycle, read_rules, start};
 use evaluator::{write_cycle_of, write_rules_of};
 use evaluator::{Comparison, Event, Record, Refusal, Rule, TableRecord};
 use std::collections::BTreeSet;
-
-const RULES: &str = "2\t1\t2\t0\t500\t-\t-\n6\t3\t2\t0\t-\t-\t1=@1:0\n";
-const CYCLE: &str = "0\t1\t7\t-\t-\t-\n400\t2\t7\t-\t-\t-\n400\t3\t7\t-\t-\t-\n\
-    900\t3\t7\t-\t-\t-\n1000\t1\t7\t-\t-\t-\n1500\t2\t7\t-\t-\t-\n";
 
 const OUTSIDE: Refusal = Refusal::plain(11);
 const SHORT: Refusal = Refusal {
@@ -21,24 +18,13 @@ const SHORT: Refusal = Refusal {
     line: None,
 };
 
-/// The rules of the listing.
-fn rules() -> Vec<Rule> {
-    let same = Comparison::with_activation(1, Equal, 1, 0);
-    vec![
-        Rule::new(2, 1, 2, 0, Some(500)),
-        Rule::new(6, 3, 2, 0, None).with_correlation(vec![same]),
-    ]
-}
-
 fn table() -> TableRecord {
-    TableRecord::of(&rules())
+    TableRecord::of(&listing::rules())
 }
 
 /// The run of the listing, not closed.
 fn run() -> Record {
-    let events = [(0, 1), (400, 2), (400, 3), (900, 3), (1000, 1), (1500, 2)];
-    let events = events.map(|(time, activity)| Event::new(time, activity).with_reading(1, 7));
-    grown(&rules(), &events)
+    grown(&listing::rules(), &listing::events())
 }
 
 /// A buffer of bytes that are not all alike.
@@ -146,24 +132,7 @@ fn a_run_is_written_alike_running_closed_and_from_the_notebook() {
 /// else is outside the limits.
 #[test]
 fn the_whole_run_is_checked() {
-    let changes: [fn(&mut Record); 12] = [
-        |run| run.standings[place(1, 1)] = Fulfilled(7),
-        |run| run.standings[place(2, 6)] = Violated(65_535),
-        |run| run.standings[place(1, 7)] = Open,
-        |run| run.standings[place(2, 256)] = Fulfilled(0),
-        |run| {
-            run.closed = true;
-            run.standings[place(1, 5)] = Open;
-        },
-        |run| run.table.count = 17,
-        |run| run.table.rules[0].end = Some(0),
-        |run| run.table.rules[1].correlation.count = 5,
-        |run| run.count = 257,
-        |run| run.count = (1 << 32) + 6,
-        |run| run.events[0].time = 401,
-        |run| run.events[3].activity = 65,
-    ];
-    for (number, change) in changes.into_iter().enumerate() {
+    for (number, change) in CAUSES.into_iter().enumerate() {
         let mut run = run();
         change(&mut run);
         for size in [0, CYCLE.len(), 200] {

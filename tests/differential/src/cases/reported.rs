@@ -2,7 +2,7 @@
 //! beside its length.
 
 use crate::cases::records::stale_run;
-use crate::cases::running::refused_event;
+use crate::cases::running::take_after_refusal;
 use crate::cases::written::{answer_of, compare_unchanged, sizes, untidy};
 use crate::command::LARGEST_BUFFER;
 use crate::script::{table_of, Case, Session};
@@ -102,11 +102,7 @@ pub fn grown_case(seed: u64) -> Case {
     let mut session = Session::started(GROWN, seed, &table_of(&rules));
     let events = random_cycle(&mut random, &rules, length);
     for event in &events {
-        if random.one_in(6) {
-            let refused = refused_event(&mut random, &session.run, *event);
-            session.take(refused).expect_err("a refusal");
-        }
-        session.take(*event).expect("a well-formed event");
+        take_after_refusal(&mut session, &mut random, *event);
         let size = random.pick(&sizes(&text_of(&session.run)));
         let _ = session.write_report(size);
     }

@@ -80,6 +80,15 @@ pub fn refused_event(random: &mut Random, run: &Record, mut event: Event) -> Eve
     event
 }
 
+/// Takes an event, now and then after a refused one.
+pub fn take_after_refusal(session: &mut Session, random: &mut Random, event: Event) {
+    if random.one_in(6) {
+        let refused = refused_event(random, &session.run, event);
+        session.take(refused).expect_err("a refusal");
+    }
+    session.take(event).expect("a well-formed event");
+}
+
 /// The 257th event: 8, but 3 and 7 come before it.
 fn take_at_the_limit(session: &mut Session, random: &mut Random) {
     let last = session.run.events[255];

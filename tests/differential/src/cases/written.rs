@@ -2,7 +2,7 @@
 //! and read back; accepted texts read and written again.
 
 use crate::cases::records::stale_run;
-use crate::cases::running::refused_event;
+use crate::cases::running::take_after_refusal;
 use crate::cases::texts::{compare_cycle_text, compare_rules_text};
 use crate::command::LARGEST_BUFFER;
 use crate::script::{new_table, table_of, Case, Session};
@@ -217,11 +217,7 @@ pub fn grown_case(seed: u64) -> Case {
     let rules = random_rules(&mut random, count);
     let mut session = Session::started(GROWN, seed, &table_of(&rules));
     for event in random_cycle(&mut random, &rules, length) {
-        if random.one_in(6) {
-            let refused = refused_event(&mut random, &session.run, event);
-            session.take(refused).expect_err("a refusal");
-        }
-        session.take(event).expect("a well-formed event");
+        take_after_refusal(&mut session, &mut random, event);
         let size = random.pick(&sizes(&cycle_text(&session.run)));
         let _ = session.write_cycle(size);
     }
