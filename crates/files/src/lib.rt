@@ -3,6 +3,9 @@ ghost use mathlib.Core.Path.{_≡_};
 ghost use mathlib.Core.Bool.{true};
 ghost use lib.ListN.{length};
 ghost use Rattle.io.specs.Counts.{Counts};
+ghost use Rattle.line.specs.Texts.{writtenLine};
+ghost use Rattle.buffer.specs.Puts.{Puts};
+ghost use Rattle.printing.specs.Lines.{refusedLine, lineFields};
 use declare::Refusal;
 use declare::number_of;
 use printing::refused::put_refused;
@@ -56,10 +59,16 @@ pub fn print(bytes: &[u8]) -> bool
     whole
 }
 
-// The line of a file that is not read whole, refused with 13.
+// The line of a file that is not read whole: 13, and line 0.
+fn put_unread(out: &mut [u8], word: &[u8]) -> usize
+    ensures { λ r. ⌜ Puts (writtenLine lineFields (refusedLine (now (word .entry)) 13 0)) (now (out .entry)) 0 (now (out .exit)) r ⌝ }
+{
+    put_refused(out, word, number_of(Refusal::NoFile), 0)
+}
+
 fn print_unread(word: &[u8]) {
     let mut line = [0u8; 64];
-    let length = put_refused(&mut line, word, number_of(Refusal::NoFile), 0);
+    let length = put_unread(&mut line, word);
     print(&line[..length]);
 }
 

@@ -15,8 +15,8 @@ use Rattle.rule_text.specs.Rules.{rulesTextOf}
 use Rattle.notebook.specs.Notebook.{readWith, finishedOf, notebookOf}
 use Rattle.printing.specs.Lines.{lineFields}
 use Rattle.printing.specs.Report.{positionLines, linesUpTo, activationLines, totalOf, ruleLines, reportLines, reportOf, wordOf, replyLines, printedLines, printedOf}
-use Rattle.printing.specs.Cases.{reports, texts, Checked}
+use Rattle.printing.specs.Cases.{reports, texts, replies, Checked}
 
 pub checked : Checked
-unfolding reports texts lineFields positionLines linesUpTo activationLines totalOf ruleLines reportLines reportOf wordOf replyLines printedLines printedOf readWith finishedOf notebookOf rulesTextOf cycleTextOf lineAfter linesOf textOf writtenLine writtenText onto split eachAfter joined digitsIn digitsOf none countBelow positionsOf totalsBy standingFrom standingIn padded tableOf newRun finishedRun
-checked = record { of-reports = refl; of-texts = refl }
+unfolding reports texts replies lineFields positionLines linesUpTo activationLines totalOf ruleLines reportLines reportOf wordOf replyLines printedLines printedOf readWith finishedOf notebookOf rulesTextOf cycleTextOf lineAfter linesOf textOf writtenLine writtenText onto split eachAfter joined digitsIn digitsOf none countBelow positionsOf totalsBy standingFrom standingIn padded tableOf newRun finishedRun
+checked = record { of-reports = refl; of-texts = refl; of-replies = refl }

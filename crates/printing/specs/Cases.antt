@@ -9,7 +9,10 @@ use Rattle.declare.specs.declared.Standing.the-variants.{Idle, Open, Fulfilled,
 use Rattle.declare.specs.EdgeCycles.{event}
 use Rattle.run.specs.declared.Run.{Run}
 use Rattle.run.specs.Cases.{Case, _is_, AsExpected, coded, recordOf}
-use Rattle.printing.specs.Report.{reportOf, printedOf}
+use Rattle.notebook.specs.declared.Text.the-variants.{Rules, Cycle}
+use Rattle.notebook.specs.Notebook.{readAs, notRead}
+use Rattle.printing.specs.Lines.{PrintedLine, activationLine, totalLine, refusedLine, rulesWord, cycleWord}
+use Rattle.printing.specs.Report.{reportOf, replyLines, printedOf}
 
 -- the first k of two rules, the first n events; these are the standings under rule 1, and under
 -- rule 2 there is no activation
@@ -77,6 +80,15 @@ texts =
     ∷ printedOf [] [] is []
     ∷ []
 
+-- of a run that was read, its report
+unfoldable pub replies : List (Case (List PrintedLine))
+replies =
+    replyLines (readAs (runOf 1 2 standings)) is (activationLine 1 2 79 0 ∷ totalLine 1 1 0 0 ∷ [])
+    ∷ replyLines (notRead Rules 4 2) is (refusedLine rulesWord 4 2 ∷ [])
+    ∷ replyLines (notRead Cycle 8 257) is (refusedLine cycleWord 8 257 ∷ [])
+    ∷ []
+
 pub record Checked : Type 0 where
   pub of-reports : AsExpected reports
   pub of-texts : AsExpected texts
+  pub of-replies : AsExpected replies
