@@ -1,4 +1,4 @@
--- The proofs of the demands and the cards.
+-- The proofs of the demands, of the cards, and of what `report` prints.
 pub mod Chains
 pub mod Texts
 pub mod Fields

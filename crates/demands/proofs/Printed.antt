@@ -32,7 +32,7 @@ use Rattle.notebook.specs.Notebook.{Reply, readAs, notRead, notebookOf}
 use Rattle.notebook.proofs.Read.{ReadFrom, read-from, read-valid, not-both, refused-at}
 use Rattle.notebook.proofs.Replies.{accepted-texts}
 use Rattle.buffer.proofs.Writes.{written, never-short}
-use Rattle.printing.specs.Lines.{PrintedLine, activationLine, totalLine, refusedLine, lineFields}
+use Rattle.printing.specs.Lines.{PrintedLine, activationLine, totalLine, refusedLine, totalWord, refusedWord, lineFields}
 use Rattle.printing.specs.Report.{positionLines, totalOf, reportLines, reportOf, wordOf, replyLines, printedLines, printedOf}
 use Rattle.printing.specs.Printing.{printedBytes}
 use Rattle.printing.proofs.Room.{refused-within, report-within}
@@ -66,11 +66,11 @@ parted (activationLine k i letter j) p = record { some = omega arith; tabs = fie
         rw (lacks-number b k low, lacks-number b i low, ne-eqb letter b (λ e. omega (arith, p .1)), lacks-number b j low)
 parted (totalLine k a f v) p = record { some = omega arith; tabs = fields tab refl (omega arith); ends = fields LF refl (omega arith) }
   where
-    fields : (b : ℕ) → lacks b (116 ∷ 111 ∷ 116 ∷ 97 ∷ 108 ∷ []) ≡ true → b < 45 → all (lacks b) (lineFields (totalLine k a f v)) ≡ true
+    fields : (b : ℕ) → lacks b totalWord ≡ true → b < 45 → all (lacks b) (lineFields (totalLine k a f v)) ≡ true
     fields b h low = rw (h, lacks-number b k low, lacks-number b a low, lacks-number b f low, lacks-number b v low)
 parted (refusedLine word n line) p = record { some = omega arith; tabs = fields tab refl (omega arith); ends = fields LF refl (omega arith) }
   where
-    fields : (b : ℕ) → lacks b (114 ∷ 101 ∷ 102 ∷ 117 ∷ 115 ∷ 101 ∷ 100 ∷ []) ≡ true → b < 45 → all (lacks b) (lineFields (refusedLine word n line)) ≡ true
+    fields : (b : ℕ) → lacks b refusedWord ≡ true → b < 45 → all (lacks b) (lineFields (refusedLine word n line)) ≡ true
     fields b h low = rw (h, p .1, lacks-word b (omega arith) (p .0), lacks-number b n low, lacks-number b line low)
 
 plain-position : (k i : ℕ) (s : Standing) (l : PrintedLine) → i ≤ 256 → positionLines k i s ≡ l ∷ [] → Plain l

@@ -1,4 +1,5 @@
--- What the library promises: the three demands and the cards, each as the type of its theorem.
+-- What the library promises: the three demands, the cards and what `report` prints, each as the
+-- type of its theorem.
 pub mod Causes
 pub mod LineCauses
 pub mod Texts

@@ -1,4 +1,4 @@
--- How the lines are put into a buffer, and how many bytes they have.
+-- How the lines are put into a buffer, how many bytes they have, and what is printed of two texts.
 pub mod Lines
 pub mod Room
 pub mod Texts
