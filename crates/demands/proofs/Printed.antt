@@ -10,6 +10,7 @@ use borrow.Author.Tests.{ne-eqb, eqb-true, leb-true, ltb-true, ltb-false}
 use lib.Dec.{eqb, leb, ltb}
 use lib.ListN.{length}
 use Rattle.declare.specs.declared.Event.{Event}
+use Rattle.declare.specs.declared.Rule.{Rule}
 use Rattle.declare.specs.declared.Table.{Table}
 use Rattle.declare.specs.declared.Standing.{Standing}
 use Rattle.declare.specs.declared.Standing.the-variants.{Idle, Open, Fulfilled, Violated}
@@ -22,13 +23,15 @@ use Rattle.run.specs.Words.{Finishes}
 use Rattle.run.proofs.Bounds.{valid-parts}
 use Rattle.run.proofs.Words.{words as run-words}
 use Rattle.line.specs.Fields.{LF, tab}
-use Rattle.line.specs.Texts.{writtenText}
+use Rattle.line.specs.Texts.{Records, All, Stop, isAll, writtenText}
+use Rattle.cycle_text.specs.Cycle.{cycleTextOf}
+use Rattle.rule_text.specs.Rules.{rulesTextOf}
 use Rattle.line.proofs.Joined.{lacks}
 use Rattle.line.proofs.Values.{lacks-number}
 use Rattle.line.proofs.Texts.{all-all, written-one, Parted}
 use Rattle.notebook.specs.declared.Text.{Text}
 use Rattle.notebook.specs.declared.Text.the-variants.{Rules, Cycle}
-use Rattle.notebook.specs.Notebook.{Reply, readAs, notRead, notebookOf}
+use Rattle.notebook.specs.Notebook.{Reply, readAs, notRead, finishedOf, notebookOf}
 use Rattle.notebook.proofs.Read.{ReadFrom, read-from, read-valid, not-both, refused-at}
 use Rattle.notebook.proofs.Replies.{accepted-texts}
 use Rattle.buffer.proofs.Writes.{written, never-short}
@@ -243,11 +246,21 @@ module _ (rules cycle : List ℕ) where
           let c = refused-within text n line (omega arith) (omega arith) .most in
           unfold replyLines in rw (written-one lineFields (refusedLine (wordOf text) n line)) (omega arith)
 
+-- of refused rules the cycle text is not looked at
+rules-first : (rules cycle other : List ℕ) → isAll (rulesTextOf rules) ≡ false → printedOf rules cycle ≡ printedOf rules other
+unfolding isAll printedOf printedLines notebookOf finishedOf
+rules-first rules cycle other = go (rulesTextOf rules)
+  where
+    go : (x : Records Rule) → isAll x ≡ false → writtenText lineFields (replyLines (finishedOf x (cycleTextOf cycle))) ≡ writtenText lineFields (replyLines (finishedOf x (cycleTextOf other)))
+    go (All rs) e = absurd (true≢false e)
+    go (Stop n line) e = refl
+
 pub printed : Printed
 printed =
     record {
       right = printed-right;
       written = λ rules cycle before after n w. written true _ before after n (w .writes) .1;
+      rules-first = rules-first;
       texts-room = λ rules cycle buffer h. never-short true (printedOf rules cycle) buffer (λ v. (let l = printed-few rules cycle in omega arith));
       report-room = λ r buffer h. never-short (validRun r) (reportOf r) buffer (λ v. (let l = report-within r v .most in omega arith));
     }

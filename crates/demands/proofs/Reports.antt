@@ -20,20 +20,20 @@ use Rattle.demands.proofs.Places.{At, here, at-left, at-right, Past, at
 -- ---- which lines there are
 
 -- of the lines of 1 to n, those of one of them
-pub record Within (f : ℕ → List PrintedLine) (n : ℕ) (l : PrintedLine) : Type 0 where
-  pub number : ℕ
-  pub low : 1 ≤ number
-  pub high : number ≤ n
-  pub place : ℕ
-  pub stands : At (f number) place l
+record LineUpTo (f : ℕ → List PrintedLine) (n : ℕ) (l : PrintedLine) : Type 0 where
+  number : ℕ
+  low : 1 ≤ number
+  high : number ≤ n
+  place : ℕ
+  stands : At (f number) place l
 
 module _ (f : ℕ → List PrintedLine) (l : PrintedLine) where
-  up-to-at : (n p : ℕ) → At (linesUpTo f n) p l → Within f n l
+  up-to-at : (n p : ℕ) → At (linesUpTo f n) p l → LineUpTo f n l
   unfolding linesUpTo
   up-to-at zero p a = absurd (at-none a)
   up-to-at (suc n) p a = go (at-either (linesUpTo f n) a) (up-to-at n p)
     where
-      go : At (linesUpTo f n) p l ⊎ Past (linesUpTo f n) (f (suc n)) p l → (At (linesUpTo f n) p l → Within f n l) → Within f (suc n) l
+      go : At (linesUpTo f n) p l ⊎ Past (linesUpTo f n) (f (suc n)) p l → (At (linesUpTo f n) p l → LineUpTo f n l) → LineUpTo f (suc n) l
       go (inl b) next = let w = next b in record { number = w .number; low = w .low; high = (let h = w .high in omega arith); place = w .place; stands = w .stands }
       go (inr b) next = record { number = suc n; low = omega arith; high = omega arith; place = b .after; stands = b .stands }
 

@@ -1,25 +1,23 @@
 -- The lines of a run that was read are the right ones, because its standings are the verdicts.
 use mathlib.Core.Path.{_≡_, refl, sym, ap, subst, _∙_}
 use mathlib.Core.Logic.{_⊎_, inl, inr}
-use mathlib.Core.Bool.{Bool, true, false, not, cond, true≢false}
+use mathlib.Core.Bool.{true, not}
 use mathlib.Core.List.{List, [], _∷_}
-use Prim.Native.Nat.{ℕ, zero, suc, _+_, _≤_}
+use Prim.Native.Nat.{ℕ, _+_, _≤_}
 use native.Mathlib.Omega.{arith}
 use lib.ListN.{length}
 use Rattle.declare.specs.declared.Event.{Event}
-use Rattle.declare.specs.declared.Polarity.{Polarity}
-use Rattle.declare.specs.declared.Polarity.the-variants.{Positive, Negative}
 use Rattle.declare.specs.declared.Rule.{Rule}
 use Rattle.declare.specs.declared.Table.{Table}
 use Rattle.declare.specs.declared.Standing.{Standing}
 use Rattle.declare.specs.declared.Standing.the-variants.{Idle, Open, Fulfilled, Violated}
 use Rattle.declare.specs.Lists.{countBelow}
 use Rattle.declare.specs.Rules.{ruleAt}
-use Rattle.declare.specs.Standings.{isIdle, isOpen}
+use Rattle.declare.specs.Standings.{isIdle}
 use Rattle.declare.specs.Suits.{activationAt}
 use Rattle.declare.specs.Templates.{polarityOf}
-use Rattle.declare.specs.Verdicts.{decided, target, verdict}
-use Rattle.declare.proofs.Exactness.{verdict-active}
+use Rattle.declare.specs.Verdicts.{target, verdict}
+use Rattle.declare.proofs.Exactness.{verdict-is, fulfilled-or-violated, verdict-active}
 use Rattle.standings.specs.declared.totals.Totals.{Totals}
 use Rattle.standings.specs.Totals.{totalsBy}
 use Rattle.standings.proofs.Counts.{totals-same, totals-activations}
@@ -34,20 +32,11 @@ use Rattle.demands.specs.Printed.{Tells, VerdictLine, TotalLine}
 use Rattle.demands.proofs.Places.{same-first}
 use Rattle.demands.proofs.Reports.{PositionLine, RunLine}
 
-decided-closed : (p : Polarity) (j : ℕ) → isOpen (decided p j) ≡ false
-unfolding decided
-decided-closed Positive zero = refl
-decided-closed Positive (suc j) = refl
-decided-closed Negative zero = refl
-decided-closed Negative (suc j) = refl
-
-verdict-closed : (r : Rule) (es : List Event) (i : ℕ) → isOpen (verdict r es i) ≡ false
-unfolding verdict
-verdict-closed r es i = go (activationAt r es i)
-  where
-    go : (a : Bool) → isOpen (cond a (decided (polarityOf r) (target r es i)) Idle) ≡ false
-    go true = decided-closed (polarityOf r) (target r es i)
-    go false = refl
+-- a verdict is never open
+verdict-closed : (r : Rule) (es : List Event) (i : ℕ) → verdict r es i ≡ Open → ⊥
+verdict-closed r es i e =
+    let act = sym (verdict-active r es i) ∙ ap (λ (s : Standing). not (isIdle s)) e in
+    fulfilled-or-violated (polarityOf r) (target r es i) (verdict r es i) (verdict-is r es i act) .0 e
 
 module _ (t : Table) (es : List Event) where
   abbrev pub RightOf : PrintedLine → Type 0
@@ -83,7 +72,7 @@ module _ (t : Table) (es : List Event) where
     position-right : (k i : ℕ) → InCycle t es k i → (s : Standing) → verdict (ruleAt t k) es i ≡ s → (l : PrintedLine) → positionLines k i s ≡ l ∷ [] → RightOf l
     unfolding positionLines
     position-right k i w Idle e l h = absurd (let z : _≡_ {A = ℕ} 0 1 = cc in omega arith)
-    position-right k i w Open e l h = absurd (true≢false (sym (ap isOpen e) ∙ verdict-closed (ruleAt t k) es i))
+    position-right k i w Open e l h = absurd (verdict-closed (ruleAt t k) es i e)
     position-right k i w (Fulfilled j) e l h =
         subst RightOf (same-first h)
         (record { place = w; activation = sym (verdict-active (ruleAt t k) es i) ∙ ap (λ (s : Standing). not (isIdle s)) e; tells = inl (refl, e) })

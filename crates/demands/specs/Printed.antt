@@ -22,7 +22,7 @@ use Rattle.declare.specs.Answers.{refused}
 use Rattle.standings.specs.Totals.{positionsOf}
 use Rattle.run.specs.declared.Run.{Run}
 use Rattle.line.specs.Fields.{tab, split}
-use Rattle.line.specs.Texts.{All}
+use Rattle.line.specs.Texts.{All, isAll}
 use Rattle.cycle_text.specs.Cycle.{cycleTextOf}
 use Rattle.rule_text.specs.Rules.{rulesTextOf}
 use Rattle.notebook.specs.declared.Text.{Text}
@@ -103,6 +103,8 @@ pub record Printed : Type 0 where
   pub right : (rules cycle : List ℕ) → PrintedRight rules cycle (printedOf rules cycle)
   -- and print_texts has written it: the first n bytes of the buffer, n the length returned
   pub written : (rules cycle before after : List ℕ) (n : ℕ) → PrintsTexts rules cycle before after (Written n) → take n after ≡ printedOf rules cycle
+  -- "the cycle file is opened after the rules are accepted": of refused ones it does not matter
+  pub rules-first : (rules cycle other : List ℕ) → isAll (rulesTextOf rules) ≡ false → printedOf rules cycle ≡ printedOf rules other
   -- a buffer of so many bytes is never too short, for any texts and any run
   pub texts-room : (rules cycle buffer : List ℕ) → printedBytes ≤ length buffer → printTextsOf rules cycle buffer ≡ refused 15 → ⊥
   pub report-room : (r : Run) (buffer : List ℕ) → printedBytes ≤ length buffer → writeReportOf r buffer ≡ refused 15 → ⊥

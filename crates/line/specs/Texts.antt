@@ -1,7 +1,7 @@
 -- The records of a text. "Lines are read downward, the first refusal ends it"; "an empty text has
 -- no records". `recordOf` stands for what one line holds: given the records above it and its
 -- fields, a record, or the number of its first cause.
-use mathlib.Core.Bool.{cond}
+use mathlib.Core.Bool.{Bool, true, false, cond}
 use mathlib.Core.List.{List, [], _∷_, _++_}
 use Prim.Native.Nat.{ℕ, _+_}
 use lib.Dec.{ltb}
@@ -16,6 +16,11 @@ use Rattle.declare.specs.Answers.{Answer, accepted, refused}
 pub data Records (A : Type 0) : Type 0 where
   All : List A → Records A
   Stop : ℕ → ℕ → Records A
+
+-- whether the text is accepted
+unfoldable pub isAll : {A : Type 0} → Records A → Bool
+isAll (All rs) = true
+isAll (Stop n line) = false
 
 -- lines count from 1, and each line above gave one record
 unfoldable pub lineAfter : {A : Type 0} → List A → ℕ

@@ -1,15 +1,20 @@
 // The verdicts on a finished cycle: reads rules.tsv and cycle.tsv in the current folder, and prints
 // the verdicts or a refusal.
 ghost use mathlib.Core.Path.{_≡_};
+ghost use mathlib.Core.Bool.{true, false};
 ghost use lib.ListN.{take};
 ghost use Rattle.io.specs.Counts.{Counts};
+ghost use Rattle.line.specs.Texts.{isAll};
+ghost use Rattle.rule_text.specs.Rules.{rulesTextOf};
 ghost use Rattle.printing.specs.Report.{printedOf};
 use buffer::WriteAnswer;
 use files::FILE_BYTES;
 use printing::PRINTED_BYTES;
 use printing::print_texts;
 
-fn are_accepted(rules: &[u8]) -> bool {
+fn are_accepted(rules: &[u8]) -> bool
+    ensures { λ r. ⌜ r ≡ isAll (rulesTextOf (now (rules .entry))) ⌝ }
+{
     let read = rule_text::read_rules(rules);
     let outcome = read.outcome;
     match outcome {
@@ -36,7 +41,10 @@ fn print(rules: &[u8], cycle: &[u8]) {
     files::print(&out[..length]);
 }
 
-fn read_cycle(rules: &[u8]) {
+// The cycle file is opened only after the rules are accepted.
+fn read_cycle(rules: &[u8])
+    requires { ⌜ isAll (rulesTextOf (now rules)) ≡ true ⌝ }
+{
     let mut cycle = [0u8; FILE_BYTES];
     let read = files::read_text(b"cycle.tsv", b"cycle", &mut cycle);
     if !read.whole {
@@ -44,6 +52,13 @@ fn read_cycle(rules: &[u8]) {
     }
     let end = read.length;
     print(rules, &cycle[..end]);
+}
+
+// What is printed of refused rules is the same for every cycle text.
+fn print_refused(rules: &[u8])
+    requires { ⌜ isAll (rulesTextOf (now rules)) ≡ false ⌝ }
+{
+    print(rules, b"");
 }
 
 fn main() {
@@ -54,11 +69,9 @@ fn main() {
     }
     let end = read.length;
     let rules = &text[..end];
-    // The cycle file is opened only after the rules are accepted; what is printed of refused ones
-    // is the same for every cycle text.
     if are_accepted(rules) {
         read_cycle(rules);
     } else {
-        print(rules, b"");
+        print_refused(rules);
     }
 }
