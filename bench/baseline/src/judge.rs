@@ -1,6 +1,6 @@
 //! The standings of a cycle's positions under its rules. The algorithm of the library: the rule is
 //! bound to the activation once, each of its tests is made a check, its reach is one interval, the
-//! first event that fits decides.
+//! nearest event that fits decides.
 use crate::types::*;
 
 #[derive(Clone, Copy)]
@@ -245,8 +245,9 @@ fn judge_activation(
     let checks = bound.tests.map(|t| check_of(&t));
     let checks = &checks[..bound.count as usize];
     let end = stop.min(n);
-    let found = (start..end).find(|&q| fits(&bound, checks, &events[q]));
-    match found {
+    let here = |q: &usize| fits(&bound, checks, &events[*q]);
+    let last = (start..end.min(p + 1)).rev().find(here);
+    match last.or_else(|| (p + 1..end).find(here)) {
         Some(q) => decide(rule.code, (q + 1) as u16),
         None if running && stop > n && can_suit(&bound, horizon) => Standing::Open,
         None => decide(rule.code, 0),

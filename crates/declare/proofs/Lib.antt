@@ -1,6 +1,7 @@
 -- The laws of the definitions, for this crate and those above it.
 pub mod Booleans
 pub mod Positions
+pub mod Nearest
 pub mod Integers
 pub mod Casts
 pub mod Satisfiability

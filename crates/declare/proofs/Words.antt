@@ -1,16 +1,16 @@
 -- The definitions compute what document 01's sentences say.
 use mathlib.Core.Path.{_≡_, refl, sym, subst, _∙_, ap}
 use mathlib.Core.Logic.{_↔_}
-use mathlib.Core.Bool.{Bool, true, false, not, _&&_, true≢false, false≢true}
+use mathlib.Core.Bool.{Bool, true, false, not, cond, _&&_, true≢false, false≢true}
 use mathlib.Core.List.{List, [], _∷_, _++_}
 use Prim.Native.Nat.{ℕ, zero, suc, _+_, _-_, _≤_, _<_}
 use native.Mathlib.Omega.{arith}
 use native.Mathlib.Nat.{not-suc-le-zero, le-of-suc-le-suc}
 use native.Mathlib.Decide.{ℕ-discrete}
-use borrow.Author.Tests.{ltb-true, leb-true, eqb-true, lt-ltb, le-leb, eq-eqb, not-true}
+use borrow.Author.Tests.{ltb-true, leb-true, eqb-true, lt-ltb, le-leb, eq-eqb, ne-eqb, not-true}
 use lib.Dec.{leb, ltb, eqb}
 use lib.ListN.{length, getD}
-use Rattle.declare.specs.Types.{Event, Test, End, Never, At, Reach, Anywhere, AtOrAfter, AlternateAfter, Next, AtOrBefore, AlternateBefore, Previous, Polarity, Positive, Negative, Rule}
+use Rattle.declare.specs.Types.{Event, Test, End, Never, At, Reach, Anywhere, AtOrAfter, AlternateAfter, Next, AtOrBefore, AlternateBefore, Previous, Polarity, Positive, Negative, Rule, Idle, Open}
 use Rattle.declare.specs.Lists.{all, noneBetween}
 use Rattle.declare.specs.Conditions.{met}
 use Rattle.declare.specs.Events.{wellFormed, nonFallingFrom, nonFalling, lastFrom, lastTime, noEvent, eventAt}
@@ -19,13 +19,13 @@ use Rattle.declare.specs.Suits.{activationAt, beforeEnd, within, between
 use Rattle.declare.specs.Templates.{templates, templateOf, inReach, reachOf, polarityOf}
 use Rattle.declare.specs.Verdicts.{eligible, target, decided, verdict}
 use Rattle.declare.specs.Continuations.{horizon, continuation}
-use Rattle.declare.specs.Reachability.{satisfiable}
+use Rattle.declare.specs.Reachability.{satisfiable, canCome, undecided, standing}
 use Rattle.declare.specs.Standings.{isFulfilled, isViolated}
-use Rattle.declare.specs.Words.{NeverFall, Before, Suits, NoActivationBetween, Eligible, Twelve, SomeEligible, NoneEligible, Names, targetIn, Judged, Satisfiable, Words}
+use Rattle.declare.specs.Words.{NeverFall, Before, Suits, NoActivationBetween, Eligible, Twelve, SomeEligible, NoneEligible, MayName, targetIn, unnamed, Unmoved, Judged, Satisfiable, Words}
 use Rattle.declare.proofs.Booleans.{and-left, and-right, and₂, both}
 use Rattle.declare.proofs.Extension.{non-falling-parts}
 use Rattle.declare.proofs.Satisfiability.{sound, complete, bringing, bringing-in-range}
-use Rattle.declare.proofs.Targets.{named}
+use Rattle.declare.proofs.Targets.{named, only-named}
 use Rattle.declare.proofs.Exactness.{verdict-is}
 
 -- ---- times
@@ -202,16 +202,16 @@ module _ (r : Rule) (es : List Event) (i : ℕ) where
   not-both : SomeEligible r es i → NoneEligible r es i → ⊥
   not-both s n = true≢false (sym (s .3) ∙ n (s .0) (s .1) (s .2))
 
-  some : (j : ℕ) → Names r es i (suc j) → SomeEligible r es i
+  some : (j : ℕ) → MayName r es i (suc j) → SomeEligible r es i
   some j n = (suc j, omega arith, n .0, n .1)
 
   -- a test of the target that passes just where there is one, and one that passes just where there
   -- is none
-  tells-some : (t : ℕ → Bool) → t 0 ≡ false → ((j : ℕ) → t (suc j) ≡ true) → (j : ℕ) → Names r es i j → (t j ≡ true) ↔ SomeEligible r es i
+  tells-some : (t : ℕ → Bool) → t 0 ≡ false → ((j : ℕ) → t (suc j) ≡ true) → (j : ℕ) → MayName r es i j → (t j ≡ true) ↔ SomeEligible r es i
   tells-some t a b zero n = ((λ h. absurd (false≢true (sym a ∙ h))), (λ s. absurd (not-both s n)))
   tells-some t a b (suc j) n = ((λ _. some j n), (λ _. b j))
 
-  tells-none : (t : ℕ → Bool) → t 0 ≡ true → ((j : ℕ) → t (suc j) ≡ false) → (j : ℕ) → Names r es i j → (t j ≡ true) ↔ NoneEligible r es i
+  tells-none : (t : ℕ → Bool) → t 0 ≡ true → ((j : ℕ) → t (suc j) ≡ false) → (j : ℕ) → MayName r es i j → (t j ≡ true) ↔ NoneEligible r es i
   tells-none t a b zero n = ((λ _. n), (λ _. a))
   tells-none t a b (suc j) n = ((λ h. absurd (false≢true (sym (b j) ∙ h))), (λ m. absurd (not-both (some j n) m)))
 
@@ -219,15 +219,54 @@ module _ (r : Rule) (es : List Event) (i : ℕ) where
   unfolding decided
   judged act =
       record {
-        fulfilled = λ a b. rw (with-polarity (positive (r .code) a b)) (tells-some (λ j. isFulfilled (decided Positive j)) refl (λ j. refl) (target r es i) (named r es i));
-        violated = λ a b. rw (with-polarity (positive (r .code) a b)) (tells-none (λ j. isViolated (decided Positive j)) refl (λ j. refl) (target r es i) (named r es i));
-        negative-violated = λ a b. rw (with-polarity (negative (r .code) a b)) (tells-some (λ j. isViolated (decided Negative j)) refl (λ j. refl) (target r es i) (named r es i));
-        negative-fulfilled = λ a b. rw (with-polarity (negative (r .code) a b)) (tells-none (λ j. isFulfilled (decided Negative j)) refl (λ j. refl) (target r es i) (named r es i));
+        fulfilled = λ a b. rw (with-polarity (positive (r .code) a b)) (tells-some (λ j. isFulfilled (decided Positive j)) refl (λ j. refl) (target r es i) (named r es i .may));
+        violated = λ a b. rw (with-polarity (positive (r .code) a b)) (tells-none (λ j. isViolated (decided Positive j)) refl (λ j. refl) (target r es i) (named r es i .may));
+        negative-violated = λ a b. rw (with-polarity (negative (r .code) a b)) (tells-some (λ j. isViolated (decided Negative j)) refl (λ j. refl) (target r es i) (named r es i .may));
+        negative-fulfilled = λ a b. rw (with-polarity (negative (r .code) a b)) (tells-none (λ j. isFulfilled (decided Negative j)) refl (λ j. refl) (target r es i) (named r es i .may));
         names = rw (verdict-is r es i act, target-in (polarityOf r) (target r es i)) (named r es i);
       }
     where
       with-polarity : {p : Polarity} → polarityOf r ≡ p → verdict r es i ≡ decided p (target r es i)
       with-polarity q = verdict-is r es i act ∙ ap (λ (p : Polarity). decided p (target r es i)) q
+
+  -- ---- whichever is named
+
+  -- there is one, or there is none; that is all that a decision depends on
+  same-found : (j k : ℕ) → MayName r es i j → MayName r es i k → eqb j 0 ≡ eqb k 0
+  same-found zero zero a b = refl
+  same-found zero (suc k) a b = absurd (not-both (some k b) a)
+  same-found (suc j) zero a b = absurd (not-both (some j a) b)
+  same-found (suc j) (suc k) a b = ne-eqb (suc j) 0 (omega arith) ∙ sym (ne-eqb (suc k) 0 (omega arith))
+
+  same-decided : (n : Polarity) (j k : ℕ) → MayName r es i j → MayName r es i k → unnamed (decided n j) ≡ unnamed (decided n k)
+  unfolding decided
+  same-decided n zero zero a b = refl
+  same-decided n zero (suc k) a b = absurd (not-both (some k b) a)
+  same-decided n (suc j) zero a b = absurd (not-both (some j a) b)
+  same-decided Positive (suc j) (suc k) a b = refl
+  same-decided Negative (suc j) (suc k) a b = refl
+
+  unmoved : (h j : ℕ) → MayName r es i j → Unmoved r es h i j
+  unfolding verdict standing undecided
+  unmoved h j m = record { finished = finished (activationAt r es i); running = running (activationAt r es i) }
+    where
+      found : eqb (target r es i) 0 ≡ eqb j 0
+      found = same-found (target r es i) j (named r es i .may) m
+
+      same : unnamed (decided (polarityOf r) (target r es i)) ≡ unnamed (decided (polarityOf r) j)
+      same = same-decided (polarityOf r) (target r es i) j (named r es i .may) m
+
+      finished : (a : Bool) → unnamed (cond a (decided (polarityOf r) (target r es i)) Idle) ≡ unnamed (cond a (decided (polarityOf r) j) Idle)
+      finished true = same
+      finished false = refl
+
+      open-too : (o : Bool) → unnamed (cond o Open (decided (polarityOf r) (target r es i))) ≡ unnamed (cond o Open (decided (polarityOf r) j))
+      open-too true = refl
+      open-too false = same
+
+      running : (a : Bool) → unnamed (cond a (cond (eqb (target r es i) 0 && canCome r es h i) Open (decided (polarityOf r) (target r es i))) Idle) ≡ unnamed (cond a (cond (eqb j 0 && canCome r es h i) Open (decided (polarityOf r) j)) Idle)
+      running true = rw found (open-too (eqb j 0 && canCome r es h i))
+      running false = refl
 
 -- ---- continuations
 
@@ -250,7 +289,8 @@ words =
       times = times;
       suited = suited;
       twelve = twelve;
-      named = named;
+      named = λ r es i j. (only-named r es i j, λ e. rw e (named r es i));
+      unmoved = λ r es h i j. unmoved r es i h j;
       judged = judged;
       continued = continued;
       satisfied = satisfied;

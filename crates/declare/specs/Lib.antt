@@ -19,4 +19,5 @@ pub mod Steps
 pub mod Exactness
 pub mod Words
 pub mod EdgeCycles
+pub mod TargetCases
 pub mod FurtherCases

@@ -1,7 +1,7 @@
 -- Tests over lists and over positions, which count from 1.
 use mathlib.Core.Bool.{Bool, true, false, not, cond, _&&_, _||_}
 use mathlib.Core.List.{List, [], _∷_}
-use Prim.Native.Nat.{ℕ, zero, suc, _+_}
+use Prim.Native.Nat.{ℕ, zero, suc, _+_, min}
 use lib.Dec.{ltb}
 
 -- every element passes
@@ -19,15 +19,28 @@ unfoldable pub noneBetween : (ℕ → Bool) → ℕ → ℕ → Bool
 noneBetween p low zero = true
 noneBetween p low (suc h) = noneBetween p low h && not (ltb low h && p h)
 
--- a position that was found, or else k if it passes, or else 0
-unfoldable pub orElse : ℕ → Bool → ℕ → ℕ
-orElse zero t k = cond t k 0
-orElse (suc j) t k = suc j
+-- a position that was found, or else k
+abbrev pub orElse : ℕ → ℕ → ℕ
+orElse zero k = k
+orElse (suc j) k = suc j
 
 -- the earliest of the positions 1 to n that passes, or 0
 unfoldable pub firstUpTo : (ℕ → Bool) → ℕ → ℕ
 firstUpTo p zero = 0
-firstUpTo p (suc n) = orElse (firstUpTo p n) (p (suc n)) (suc n)
+firstUpTo p (suc n) = orElse (firstUpTo p n) (cond (p (suc n)) (suc n) 0)
+
+-- the latest of them, or 0
+unfoldable pub lastUpTo : (ℕ → Bool) → ℕ → ℕ
+lastUpTo p zero = 0
+lastUpTo p (suc n) = cond (p (suc n)) (suc n) (lastUpTo p n)
+
+-- of the positions past i, up to n, the first that passes, or 0
+unfoldable pub firstPast : (ℕ → Bool) → ℕ → ℕ → ℕ
+firstPast p i n = firstUpTo (λ j. ltb i j && p j) n
+
+-- of the positions 1 to n that pass, the latest up to i; failing that, the first past i; or 0
+unfoldable pub nearest : (ℕ → Bool) → ℕ → ℕ → ℕ
+nearest p i n = orElse (lastUpTo p (min i n)) (firstPast p i n)
 
 -- ---- over the places of a list, which count from 0
 

@@ -4,7 +4,7 @@ use mathlib.Core.List.{List}
 use Prim.Native.Nat.{ℕ, zero, suc}
 use lib.ListN.{length}
 use Rattle.declare.specs.Types.{Event, Rule, Polarity, Positive, Negative, Standing, Idle, Fulfilled, Violated}
-use Rattle.declare.specs.Lists.{firstUpTo}
+use Rattle.declare.specs.Lists.{nearest}
 use Rattle.declare.specs.Events.{eventAt}
 use Rattle.declare.specs.Suits.{activationAt, suits}
 use Rattle.declare.specs.Templates.{inReach, reachOf, polarityOf}
@@ -13,9 +13,10 @@ use Rattle.declare.specs.Templates.{inReach, reachOf, polarityOf}
 unfoldable pub eligible : Rule → List Event → ℕ → ℕ → Bool
 eligible r es i j = suits r (eventAt es i) (eventAt es j) && inReach (reachOf r) (activationAt r es) i j
 
--- "the verdict names the earliest eligible j, or 0 if there is none"
+-- "the latest eligible position at or before the activation; failing that, the first after it", or
+-- 0 if there is none
 unfoldable pub target : Rule → List Event → ℕ → ℕ
-target r es i = firstUpTo (eligible r es i) (length es)
+target r es i = nearest (eligible r es i) i (length es)
 
 -- what a target says of its activation, 0 for no eligible event
 unfoldable pub decided : Polarity → ℕ → Standing

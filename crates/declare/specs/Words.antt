@@ -2,9 +2,10 @@
 -- record is proved in proofs/Words.
 use mathlib.Core.Path.{_≡_}
 use mathlib.Core.Logic.{_↔_}
-use mathlib.Core.Bool.{true, false, _&&_}
+use mathlib.Core.Bool.{true, false, cond, _&&_}
 use mathlib.Core.List.{List, _++_}
 use Prim.Native.Nat.{ℕ, zero, suc, _+_, _≤_, _<_}
+use lib.Dec.{eqb}
 use lib.ListN.{length}
 use Rattle.declare.specs.Types.{Event, Test, End, Never, At, Rule, Standing, Idle, Open, Fulfilled, Violated}
 use Rattle.declare.specs.Lists.{all}
@@ -13,9 +14,10 @@ use Rattle.declare.specs.Conditions.{met}
 use Rattle.declare.specs.Events.{readingsInRange, wellFormed, nonFalling, eventAt}
 use Rattle.declare.specs.Rules.{isReading}
 use Rattle.declare.specs.Suits.{activationAt, between, suits}
-use Rattle.declare.specs.Verdicts.{eligible, target, verdict}
+use Rattle.declare.specs.Templates.{polarityOf}
+use Rattle.declare.specs.Verdicts.{eligible, target, decided, verdict}
 use Rattle.declare.specs.Continuations.{horizon, continuation}
-use Rattle.declare.specs.Reachability.{satisfiable}
+use Rattle.declare.specs.Reachability.{satisfiable, canCome, standing}
 use Rattle.declare.specs.Standings.{isFulfilled, isViolated}
 
 -- "times may repeat but never fall"
@@ -66,11 +68,17 @@ SomeEligible r es i = (j : ℕ) × (1 ≤ j) × (j ≤ length es) × (eligible r
 abbrev pub NoneEligible : Rule → List Event → ℕ → Type 0
 NoneEligible r es i = (j : ℕ) → 1 ≤ j → j ≤ length es → eligible r es i j ≡ false
 
--- "the earliest eligible j, or 0 if there is none"
-abbrev pub Names : Rule → List Event → ℕ → ℕ → Type 0
-Names r es i zero = NoneEligible r es i
-Names r es i (suc j) =
-    (suc j ≤ length es) × (eligible r es i (suc j) ≡ true) × ((k : ℕ) → 1 ≤ k → k < suc j → eligible r es i k ≡ false)
+-- what can be named: an eligible position, or 0 if there is none
+abbrev pub MayName : Rule → List Event → ℕ → ℕ → Type 0
+MayName r es i zero = NoneEligible r es i
+MayName r es i (suc j) = (suc j ≤ length es) × (eligible r es i (suc j) ≡ true)
+
+-- "the latest eligible position at or before the activation; failing that, the first after it"
+pub record Names (r : Rule) (es : List Event) (i j : ℕ) : Type 0 where
+  pub may : MayName r es i j
+  pub latest : j ≤ i → (k : ℕ) → j < k → k ≤ i → k ≤ length es → eligible r es i k ≡ false
+  -- none at or before the activation, and none between it and j
+  pub first : i < j → (k : ℕ) → 1 ≤ k → k < j → eligible r es i k ≡ false
 
 -- the target that a standing names
 unfoldable pub targetIn : Standing → ℕ
@@ -78,6 +86,19 @@ targetIn Idle = 0
 targetIn Open = 0
 targetIn (Fulfilled j) = j
 targetIn (Violated j) = j
+
+-- a standing but for the target that it names
+abbrev pub unnamed : Standing → Standing
+unnamed Idle = Idle
+unnamed Open = Open
+unnamed (Fulfilled j) = Fulfilled 0
+unnamed (Violated j) = Violated 0
+
+-- "verdicts don't move": with j for the target, in a finished cycle and in a running one
+pub record Unmoved (r : Rule) (es : List Event) (h i j : ℕ) : Type 0 where
+  pub finished : unnamed (verdict r es i) ≡ unnamed (cond (activationAt r es i) (decided (polarityOf r) j) Idle)
+  pub running : unnamed (standing r es h i)
+      ≡ unnamed (cond (activationAt r es i) (cond (eqb j 0 && canCome r es h i) Open (decided (polarityOf r) j)) Idle)
 
 -- an activation of a finished cycle: 1 to 7 "are fulfilled if an eligible j exists"; 8 to 12 are
 -- "violated if one exists"
@@ -96,7 +117,10 @@ pub record Words : Type 0 where
   pub times : (es : List Event) → (nonFalling es ≡ true) ↔ NeverFall es
   pub suited : (r : Rule) (a e : Event) → (suits r a e ≡ true) ↔ Suits r a e
   pub twelve : (r : Rule) (es : List Event) (i j : ℕ) → Twelve r es i j
-  pub named : (r : Rule) (es : List Event) (i : ℕ) → Names r es i (target r es i)
+  -- the target is what is named, and nothing else is
+  pub named : (r : Rule) (es : List Event) (i j : ℕ) → Names r es i j ↔ (j ≡ target r es i)
+  -- whichever eligible event were named, the earliest say, the standings would be the same
+  pub unmoved : (r : Rule) (es : List Event) (h i j : ℕ) → MayName r es i j → Unmoved r es h i j
   pub judged : (r : Rule) (es : List Event) (i : ℕ) → activationAt r es i ≡ true → Judged r es i
   -- of a cycle whose times do not fall, the continuations are what makes it a longer such cycle, of
   -- well-formed events

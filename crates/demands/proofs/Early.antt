@@ -3,8 +3,8 @@
 -- carried over or judged from the events now in it.
 use mathlib.Core.Path.{_≡_, refl, sym, ap, subst, _∙_}
 use mathlib.Core.Logic.{_↔_}
-use mathlib.Core.Bool.{Bool, true, false, true≢false, false≢true}
-use mathlib.Core.List.{List, [], _++_}
+use mathlib.Core.Bool.{Bool, true, false, not, true≢false, false≢true}
+use mathlib.Core.List.{List, [], _++_, append-nil}
 use Prim.Native.Nat.{ℕ, _+_, _≤_, _<_}
 use native.Mathlib.Omega.{arith}
 use borrow.Author.Tests.{leb-true, leb-false, ltb-true}
@@ -13,7 +13,7 @@ use lib.ListN.{length, set, length-take}
 use Rattle.declare.specs.declared.Event.{Event}
 use Rattle.declare.specs.declared.Rule.{Rule}
 use Rattle.declare.specs.declared.Standing.{Standing}
-use Rattle.declare.specs.declared.Standing.the-variants.{Idle, Open}
+use Rattle.declare.specs.declared.Standing.the-variants.{Idle, Open, Fulfilled, Violated}
 use Rattle.declare.specs.Lists.{all}
 use Rattle.declare.specs.Limits.{mostRules, mostEvents}
 use Rattle.declare.specs.Events.{wellFormed, nonFalling, lastTime}
@@ -21,13 +21,15 @@ use Rattle.declare.specs.Rules.{validRule, ruleAt}
 use Rattle.declare.specs.Suits.{activationAt}
 use Rattle.declare.specs.Standings.{isIdle, isFulfilled, isViolated, isDecided}
 use Rattle.declare.specs.Verdicts.{verdict}
-use Rattle.declare.specs.Continuations.{horizon}
+use Rattle.declare.specs.Continuations.{horizon, continuation}
 use Rattle.declare.specs.Reachability.{standing}
 use Rattle.declare.specs.Answers.{accepted}
 use Rattle.declare.specs.Steps.{Cycle, carried}
 use Rattle.declare.specs.Exactness.{InEvery, ExactAt}
+use Rattle.declare.specs.Words.{Names, targetIn}
 use Rattle.declare.proofs.Extension.{activation-same}
-use Rattle.declare.proofs.Exactness.{none-added, exactness, idle-elsewhere}
+use Rattle.declare.proofs.Exactness.{none-added, exactness, idle-elsewhere, verdict-active}
+use Rattle.declare.proofs.Words.{judged}
 use Rattle.declare.proofs.Carried.{carried-decided, carried-other, only-idle}
 use Rattle.declare.proofs.Steps.{admitted}
 use Rattle.declare.proofs.Tables.{rule-valid}
@@ -89,17 +91,39 @@ exact-at rule es i v f o low high = go (activationAt rule es i) refl
 decided-open : (s : Standing) → isDecided s ≡ true → s ≡ Open → ⊥
 decided-open s d e = true≢false (sym d ∙ ap isDecided e)
 
+-- a decided verdict is one on an activation
+names-nearest : (rule : Rule) (es : List Event) (i : ℕ) (s : Standing) → verdict rule es i ≡ s → isDecided s ≡ true → Names rule es i (targetIn s)
+names-nearest rule es i s e d =
+    subst (λ (u : Standing). Names rule es i (targetIn u)) e
+    (judged rule es i (sym (verdict-active rule es i) ∙ ap (λ (u : Standing). not (isIdle u)) e ∙ decided-active s d) .names)
+  where
+    decided-active : (u : Standing) → isDecided u ≡ true → not (isIdle u) ≡ true
+    decided-active Idle q = absurd (false≢true q)
+    decided-active Open q = refl
+    decided-active (Fulfilled j) q = refl
+    decided-active (Violated j) q = refl
+
 pub early-at : (rule : Rule) (es : List Event) (r : Run) (k i : ℕ) → validRule rule ≡ true → all wellFormed es ≡ true → nonFalling es ≡ true → 1 ≤ i → i ≤ length es → standingOf r k i ≡ accepted (standing rule es (horizon es) i) → Early rule es r k i
 early-at rule es r k i v f o low high answer =
-    let x : ExactAt rule es (horizon es) i = exact-at rule es i v f o low high in
-    let now : Standing = standing rule es (horizon es) i in
     record {
       fulfilled = stands-fulfilled r k i now answer _ (x .fulfilled);
       violated = stands-violated r k i now answer _ (x .violated);
       undecided = stands-so r k i now answer Open _ (x .undecided);
       idle = stands-so r k i now answer Idle _ (idle-elsewhere rule es (horizon es) i);
-      kept = λ s a d added c. (let e : now ≡ s = stands-as r k i now answer s a in x .kept (λ p. decided-open s d (sym e ∙ p)) added c ∙ e);
+      kept = kept;
+      names = λ s a d. names-nearest rule es i s (rw append-nil at (kept s a d [] (none-added (horizon es)))) d;
     }
+  where
+    x : ExactAt rule es (horizon es) i
+    x = exact-at rule es i v f o low high
+
+    now : Standing
+    now = standing rule es (horizon es) i
+
+    kept : (s : Standing) → standingOf r k i ≡ accepted s → isDecided s ≡ true → (added : List Event) → continuation (horizon es) added ≡ true → verdict rule (es ++ added) i ≡ s
+    kept s a d added c =
+        let e : now ≡ s = stands-as r k i now answer s a in
+        x .kept (λ p. decided-open s d (sym e ∙ p)) added c ∙ e
 
 -- ---- after a take on any valid record
 

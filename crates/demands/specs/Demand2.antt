@@ -1,6 +1,7 @@
 -- Demand 2: "in a closed cycle" exactly the events that fit are activations, each "fulfilled when
--- its template's published formula holds there, otherwise violated, and the target named is the one
--- document 01 picks". All of it of what the call standing answers.
+-- its template's published formula holds there, otherwise violated, and the target named is" "the
+-- latest eligible position at or before the activation; failing that, the first after it". All of
+-- it of what the call standing answers.
 use mathlib.Core.Path.{_≡_}
 use mathlib.Core.Logic.{_↔_}
 use mathlib.Core.Bool.{true, false}
@@ -66,7 +67,8 @@ pub record Follows (rule : Rule) (es : List Event) (r : Run) (k i : ℕ) : Type 
       → (rule .code ≡ 3 → Plain rule)
       → (rule .code ≡ 6 → Plain rule)
       → Decides r k i rule es (publishedOf rule)
-  -- "the target named is the one document 01 picks": the earliest eligible, or 0 if there is none
+  -- the target named is the latest eligible position at or before i; failing that, the first after
+  -- it; 0 if none is eligible
   pub names : activationAt rule es i ≡ true → (s : Standing) → standingOf r k i ≡ accepted s → Names rule es i (targetIn s)
 
 -- the closed run r of the rules t and the events es

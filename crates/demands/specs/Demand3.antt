@@ -19,6 +19,7 @@ use Rattle.declare.specs.Verdicts.{verdict}
 use Rattle.declare.specs.Continuations.{horizon, continuation}
 use Rattle.declare.specs.Steps.{taken}
 use Rattle.declare.specs.Exactness.{InEvery, InSome}
+use Rattle.declare.specs.Words.{Names, targetIn}
 use Rattle.run.specs.declared.Run.{Run}
 use Rattle.declare.specs.Answers.{accepted}
 use Rattle.run.specs.Records.{eventsOf, Sized}
@@ -49,6 +50,8 @@ pub record Early (rule : Rule) (es : List Event) (r : Run) (k i : ℕ) : Type 0 
   -- a decided one keeps its verdict and its target in every continuation
   pub kept : (s : Standing) → standingOf r k i ≡ accepted s → isDecided s ≡ true
       → (added : List Event) → continuation (horizon es) added ≡ true → verdict rule (es ++ added) i ≡ s
+  -- and the target it names is the nearest, as in a closed cycle
+  pub names : (s : Standing) → standingOf r k i ≡ accepted s → isDecided s ≡ true → Names rule es i (targetIn s)
 
 -- of a run with the rules t and the events es
 abbrev pub EarlyVerdicts : Table → List Event → Run → Type 0

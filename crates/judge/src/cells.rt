@@ -10,7 +10,7 @@ ghost use Rattle.judge.specs.Ready.{Ready};
 use crate::columns::NUMBERS;
 use crate::columns::columns_of;
 use crate::flags::flags_of;
-use crate::scan::first_suiting;
+use crate::scan::nearest_suiting;
 use crate::span::span_of;
 use crate::template::decide;
 use crate::template::template_of;
@@ -36,7 +36,7 @@ fn target_of(j: usize) -> u16
 }
 
 // What becomes of the standing s of the event `act` at place p. A decided one is carried over; of
-// an activation, the first event that suits it decides, else whether one may still come. The row
+// an activation, the nearest event that suits it decides, else whether one may still come. The row
 // has a flag for each event.
 fn judge<'a>(
     times: &'a [u32; EVENTS],
@@ -66,7 +66,15 @@ fn judge<'a>(
     let bound = bound_of(rule, act);
     let n = row.len();
     let stop = span.stop;
-    let j = first_suiting(times, activities, numbers, bound, span.start, min(stop, n));
+    let j = nearest_suiting(
+        times,
+        activities,
+        numbers,
+        bound,
+        span.start,
+        p + 1,
+        min(stop, n),
+    );
     if 0 < j {
         return decide(polarity, target_of(j));
     }

@@ -3,6 +3,6 @@ pub mod template; // template.rt: the template of a code, and what a target says
 mod columns; // columns.rt: the events by column
 mod flags; // flags.rt: which events are activations of which rule
 mod check; // check.rt: tests made ready for a scan
-mod scan; // scan.rt: the first position that suits, and the neighbouring activations
+mod scan; // scan.rt: the nearest position that suits, and the neighbouring activations
 mod span; // span.rt: the positions that a template reaches
 pub mod cells; // cells.rt: all standings of a run

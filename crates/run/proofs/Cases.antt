@@ -1,6 +1,6 @@
 -- The small records, by computation over the definitions.
 use mathlib.Core.Path.{refl}
-use Rattle.declare.specs.Lists.{all, any, orElse, firstUpTo, allBelow, countBelow, mapFrom}
+use Rattle.declare.specs.Lists.{all, any, firstUpTo, lastUpTo, firstPast, nearest, allBelow, countBelow, mapFrom}
 use Rattle.declare.specs.Conditions.{comparisonsOf, testsOf, met}
 use Rattle.declare.specs.Events.{inRange, isActivity, readingsInRange, wellFormed, nonFallingFrom, nonFalling, lastFrom, lastTime, eventAt}
 use Rattle.declare.specs.Rules.{isTemplate, noneTwice, noRule, ruleAt, validCondition, validEnd, validWindow, validHead, validRule, rulesOf, validTable}
@@ -22,7 +22,7 @@ use Rattle.run.specs.Close.{closedAt, closedCells, closedRun, finishedRu
 use Rattle.run.specs.Cases.{codes, records, starts, judgements, closings, finished, numbers, counted, Checked}
 
 pub checked : Checked
-unfolding codes records starts judgements closings finished numbers counted all any orElse firstUpTo allBelow countBelow mapFrom comparisonsOf testsOf met inRange isActivity readingsInRange wellFormed nonFallingFrom nonFalling lastFrom lastTime eventAt isTemplate noneTwice noRule validCondition validEnd validWindow validHead validRule rulesOf validTable isActivation activationAt beforeEnd within correlates suits templates templateOf inReach eligible target decided horizon candidates meets someMeets satisfiable soonest hasRoom canCome undecided standing carried closing closed standingIn inUse judged judgedAt changedCell judgedCells eventsOf ruleAt validEvents validAt validRow validStandings validRun afterCall newRun startOf emptyTable started judgedRun changed closedAt closedCells closedRun positionsOf totalsBy standingFrom padded tableOf _>>_ require verdict finishedRun
+unfolding codes records starts judgements closings finished numbers counted all any firstUpTo lastUpTo firstPast nearest allBelow countBelow mapFrom comparisonsOf testsOf met inRange isActivity readingsInRange wellFormed nonFallingFrom nonFalling lastFrom lastTime eventAt isTemplate noneTwice noRule validCondition validEnd validWindow validHead validRule rulesOf validTable isActivation activationAt beforeEnd within correlates suits templates templateOf inReach eligible target decided horizon candidates meets someMeets satisfiable soonest hasRoom canCome undecided standing carried closing closed standingIn inUse judged judgedAt changedCell judgedCells eventsOf ruleAt validEvents validAt validRow validStandings validRun afterCall newRun startOf emptyTable started judgedRun changed closedAt closedCells closedRun positionsOf totalsBy standingFrom padded tableOf _>>_ require verdict finishedRun
 checked =
     record {
       of-codes = refl;

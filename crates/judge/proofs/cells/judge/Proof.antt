@@ -16,6 +16,7 @@ use Rattle.judge.specs.Columns.{eventsIn}
 use Rattle.judge.specs.Flags.{flagAt}
 use Rattle.judge.specs.Spans.{spanOf}
 use Rattle.judge.proofs.Activations.{flag-tells}
+use Rattle.judge.proofs.Spans.{span-start}
 use Rattle.judge.proofs.Judged.{Known, idle-here, with-target, out-of-reach, in-reach}
 use borrow.Author.Needs.{needs}
 use Rattle.judge.proofs.cells.judge.Statement.{statement}
@@ -39,19 +40,19 @@ returns-2 c =
 
 -- ---- after the scan
 
-abbrev start : tie.After-first-suiting → tie.Start
+abbrev start : tie.After-nearest-suiting → tie.Start
 start c = c .before .before .before .before .before .before .before .before .before .before
 
-abbrev standing : tie.After-first-suiting → Standing
+abbrev standing : tie.After-nearest-suiting → Standing
 standing c =
     let a = start c .args in
     judged (a .running) (a .rule) (eventsIn (a .times .now) (a .activities .now) (a .numbers .now) (length (a .row .now))) (a .horizon) (a .p + 1)
 
-template : (c : tie.After-first-suiting) → c .before .before .before .before .template-of .result ≡ templateOf (start c .args .rule .code)
+template : (c : tie.After-nearest-suiting) → c .before .before .before .before .template-of .result ≡ templateOf (start c .args .rule .code)
 template c = c .before .before .before .before .template-of .ensures
 
-known : (c : tie.After-first-suiting) → let a = start c .args in
-    Known (a .times .now) (a .activities .now) (a .numbers .now) (a .row .now) (a .rule) (a .p) (a .act) (c .before .before .bound-of .result) (c .before .before .before .span-of .result) (c .first-suiting .result)
+known : (c : tie.After-nearest-suiting) → let a = start c .args in
+    Known (a .times .now) (a .activities .now) (a .numbers .now) (a .row .now) (a .rule) (a .p) (a .act) (c .before .before .bound-of .result) (c .before .before .before .span-of .result) (c .nearest-suiting .result)
 known c =
     let s = start c in
     record {
@@ -59,15 +60,15 @@ known c =
       active = flag-tells (s .pre) ∙ not-false _ (c .before .before .before .before .before .if2 .left);
       bound = c .before .before .bound-of .ensures;
       spanned = c .before .before .before .span-of .ensures ∙ ap (λ (t : Template). spanOf (t .reach) (flagAt (s .args .row .now)) (s .args .p + 1) (length (s .args .row .now))) (template c);
-      found = rw (← c .before .min .ensures) (c .first-suiting .ensures .0);
+      found = rw (← c .before .min .ensures) (c .nearest-suiting .ensures .0);
     }
 
 -- what a target says under the rule's template
-says : (c : tie.After-first-suiting) (j : ℕ) → decided (c .before .before .before .before .template-of .result .polarity) j ≡ decided (polarityOf (start c .args .rule)) j
+says : (c : tie.After-nearest-suiting) (j : ℕ) → decided (c .before .before .before .before .template-of .result .polarity) j ≡ decided (polarityOf (start c .args .rule)) j
 says c j = ap (λ (t : Template). decided (t .polarity) j) (template c)
 
 -- the standing that was there is not decided
-anew : (c : tie.After-first-suiting) {v : Standing} → standing c ≡ v → v ≡ carried (start c .args .s) (standing c)
+anew : (c : tie.After-nearest-suiting) {v : Standing} → standing c ≡ v → v ≡ carried (start c .args .s) (standing c)
 anew c e =
     sym e ∙ sym (carried-other (start c .args .s) _ (sym (c .before .before .before .before .before .before .before .before .is-decided .ensures) ∙ c .before .before .before .before .before .before .before .if1 .left))
 
@@ -80,11 +81,14 @@ span-of-requires c κs = search needs
 bound-of-requires : tie.Need-bound-of-requires
 bound-of-requires c κs = search needs
 
+add-nearest-suiting : tie.Need-add-nearest-suiting
+add-nearest-suiting c = search needs
+
 min-requires : tie.Need-min-requires
 min-requires c κs = search needs
 
-first-suiting-requires : tie.Need-first-suiting-requires
-first-suiting-requires c κs = search needs
+nearest-suiting-requires : tie.Need-nearest-suiting-requires
+nearest-suiting-requires c κs = (span-start _ _ _ _ _ (c .before .before .span-of .ensures), omega arith)
 
 target-of-requires : tie.Need-target-of-requires
 target-of-requires c κs = search needs
@@ -96,7 +100,7 @@ returns-3 : tie.Need-returns-3
 returns-3 c =
     let f = c .before .before .before in
     let a = start f .args in
-    c .decide .ensures ∙ ap (decided _) (c .before .target-of .ensures) ∙ says f (f .first-suiting .result)
+    c .decide .ensures ∙ ap (decided _) (c .before .target-of .ensures) ∙ says f (f .nearest-suiting .result)
     ∙ anew f (with-target (known f) (a .running) (a .horizon) (c .before .before .if3 .taken))
 
 decide-requires-2 : tie.Need-decide-requires-2
@@ -138,8 +142,9 @@ judge-spec =
     template-of-requires
     span-of-requires
     bound-of-requires
+    add-nearest-suiting
     min-requires
-    first-suiting-requires
+    nearest-suiting-requires
     target-of-requires
     decide-requires
     returns-3

@@ -3,20 +3,18 @@ use borrow.Author.Needs.{needs}
 use mathlib.Core.Path.{_≡_, sym, _∙_}
 use Prim.Native.Nat.{_-_, _≤_}
 use native.Mathlib.Omega.{arith}
-use Rattle.judge.specs.Columns.{firstSuiting}
+use Rattle.declare.specs.Lists.{firstPast}
+use Rattle.judge.specs.Columns.{suitsIn}
 use Rattle.judge.proofs.ByColumn.{suits-next}
 use Rattle.judge.proofs.Spans.{first-begin, first-again, first-found, first-end}
 use Rattle.judge.proofs.scan.first_suiting.Statement.{statement}
 use Rattle.judge.proofs.scan.first_suiting.Tie as tie
 
 abbrev Inv-loop : tie.InvT-loop
-Inv-loop times activities numbers bound start stop checks q₀ q = (start ≤ q) × (firstSuiting bound times activities numbers start q ≡ 0)
+Inv-loop times activities numbers bound checks start stop q₀ q = (start ≤ q) × (firstPast (suitsIn bound times activities numbers) start q ≡ 0)
 
 abbrev μ-loop : tie.MeasureT-loop
-μ-loop times activities numbers bound start stop checks q₀ q = stop - q
-
-checks-of-requires : tie.Need-checks-of-requires Inv-loop μ-loop
-checks-of-requires c κs = search needs
+μ-loop times activities numbers bound checks start stop q₀ q = stop - q
 
 loop-holds : tie.Need-loop-holds Inv-loop μ-loop
 loop-holds c = (omega arith, first-begin _ _)
@@ -50,7 +48,6 @@ first-suiting-spec =
     (tie.spec
     Inv-loop
     μ-loop
-    checks-of-requires
     loop-holds
     suits-at-requires
     add-result
