@@ -1,6 +1,7 @@
 //! The cases that are compared, each made from its seed alone.
 
 pub mod causes;
+pub mod crowded;
 pub mod notebook;
 pub mod printed;
 pub mod records;

@@ -10,6 +10,7 @@ use evaluator::{Comparison, ConditionSlot, Event, Operator, Record, Reference, R
 use evaluator::{RuleSlot, Standing, TableRecord, Tally, Text};
 
 mod printed;
+mod targets;
 mod written;
 
 use written::Source;
@@ -22,6 +23,12 @@ pub enum Mistake {
     NeverOpen,
     /// A take judges decided standings anew.
     JudgesAnew,
+    /// A take names the earliest eligible position.
+    NamesTheEarliest,
+    /// A take names the latest eligible position.
+    NamesTheLatest,
+    /// A take looks after the activation first.
+    PrefersTheOneAfter,
     /// A take clears the rows of rules that the table does not have.
     ClearsRows,
     /// A refused take puts its event in the next slot.
@@ -42,6 +49,10 @@ pub enum Mistake {
     ReadsBlanksAsZero,
     /// The notebook names the position after the target.
     NamesTheNext,
+    /// The notebook names the earliest eligible position.
+    ReadsTheEarliest,
+    /// The notebook names the latest eligible position.
+    ReadsTheLatest,
     /// A refused absorb has counted the cycle.
     CountsRefused,
     /// Bytes beyond a written text become 0.
@@ -70,6 +81,8 @@ pub enum Mistake {
     SwapsVerdicts,
     /// An activation is printed with the target of the one below it.
     PrintsTheNextTarget,
+    /// A print of two texts names the earliest eligible position.
+    PrintsTheEarliest,
     /// The total of a rule is printed above its activations.
     PrintsTotalsFirst,
     /// A rule without activations has no total.
@@ -93,9 +106,12 @@ pub enum Mistake {
 }
 
 impl Mistake {
-    pub const ALL: [Mistake; 36] = [
+    pub const ALL: [Mistake; 42] = [
         Mistake::NeverOpen,
         Mistake::JudgesAnew,
+        Mistake::NamesTheEarliest,
+        Mistake::NamesTheLatest,
+        Mistake::PrefersTheOneAfter,
         Mistake::ClearsRows,
         Mistake::KeepsRefused,
         Mistake::ClosesToViolated,
@@ -106,6 +122,8 @@ impl Mistake {
         Mistake::DropsComparisons,
         Mistake::ReadsBlanksAsZero,
         Mistake::NamesTheNext,
+        Mistake::ReadsTheEarliest,
+        Mistake::ReadsTheLatest,
         Mistake::CountsRefused,
         Mistake::ZeroesTheRest,
         Mistake::ChangesTheLeast,
@@ -120,6 +138,7 @@ impl Mistake {
         Mistake::EndsWithZero,
         Mistake::SwapsVerdicts,
         Mistake::PrintsTheNextTarget,
+        Mistake::PrintsTheEarliest,
         Mistake::PrintsTotalsFirst,
         Mistake::LeavesOutIdleRules,
         Mistake::NamesTheOtherText,
@@ -376,6 +395,7 @@ impl State {
         }
         if answer.is_ok() {
             self.change_taken(&mut run);
+            self.change_targets(&mut run);
         }
         self.run = run;
         self.answer(answer.err(), [0; 12]);
@@ -482,6 +502,7 @@ impl State {
                 if self.has(Mistake::NamesTheNext) {
                     run.standings.iter_mut().for_each(name_next);
                 }
+                self.change_read_targets(&mut run);
                 self.run = run;
                 None
             }

@@ -1,12 +1,13 @@
 //! The program `report`: what it prints, byte for byte, with nothing on standard
 //! error, and that it says there if it could not print in full.
 
+use differential::cases::crowded::crowd;
 use differential::cases::reports::{compare, files, texts_of, File};
 use differential::folder::Folder;
 use differential::report::Report;
 use evaluator::listing::{CYCLE, PRINTED, RULES};
 use evaluator::random::Random;
-use evaluator::report;
+use evaluator::{report, write_cycle, write_rules};
 use std::fs;
 use std::process::Command;
 use std::time::Duration;
@@ -63,6 +64,17 @@ fn random_texts() {
     assert!(found[..3].iter().all(|count| *count >= 20), "{found:?}");
     for (seed, (rules, cycle)) in (8_100_000..).zip(&pairs) {
         agree(&program, seed, rules, cycle);
+    }
+}
+
+#[test]
+fn crowded_texts() {
+    let program = Report::find();
+    for seed in 8_300_000..8_300_100 {
+        let (rules, events) = crowd(seed);
+        let rules = File::Bytes(write_rules(&rules));
+        let cycle = File::Bytes(write_cycle(&events));
+        agree(&program, seed, &rules, &cycle);
     }
 }
 

@@ -1,7 +1,7 @@
 //! The comparison itself: it agrees with the evaluator behind `probe`'s
 //! commands, and each kind of cases finds the mistakes that are put there.
 
-use differential::cases::{causes, notebook, printed, records, reported, running};
+use differential::cases::{causes, crowded, notebook, printed, records, reported, running};
 use differential::cases::{tally, texts, written};
 use differential::compare::compare;
 use differential::script::Case;
@@ -10,6 +10,14 @@ use std::collections::BTreeSet;
 
 fn running_cases() -> Vec<Case> {
     (1..=30).map(running::case).collect()
+}
+
+fn crowded_cases() -> Vec<Case> {
+    (1..=20).map(crowded::case).collect()
+}
+
+fn crowded_stale_cases() -> Vec<Case> {
+    (1..=20).map(crowded::stale_case).collect()
 }
 
 fn record_cases() -> Vec<Case> {
@@ -95,6 +103,8 @@ fn the_evaluator_agrees_with_itself() {
     };
     let cases = [
         running_cases(),
+        crowded_cases(),
+        crowded_stale_cases(),
         record_cases(),
         stale_cases(),
         cause_cases(),
@@ -124,9 +134,14 @@ fn the_evaluator_agrees_with_itself() {
 /// A mistake, and the cases that have to find it.
 type Finder = (Mistake, fn() -> Vec<Case>);
 
-const FINDERS: [Finder; 68] = [
+const FINDERS: [Finder; 76] = [
     (Mistake::NeverOpen, running_cases),
     (Mistake::JudgesAnew, stale_cases),
+    (Mistake::JudgesAnew, crowded_stale_cases),
+    (Mistake::NamesTheEarliest, crowded_cases),
+    (Mistake::NamesTheEarliest, crowded_stale_cases),
+    (Mistake::NamesTheLatest, crowded_stale_cases),
+    (Mistake::PrefersTheOneAfter, crowded_stale_cases),
     (Mistake::ClearsRows, record_cases),
     (Mistake::KeepsRefused, running_cases),
     (Mistake::ClosesToViolated, running_cases),
@@ -140,6 +155,8 @@ const FINDERS: [Finder; 68] = [
     (Mistake::ReadsBlanksAsZero, cycle_cases),
     (Mistake::NamesTheNext, pair_cases),
     (Mistake::NamesTheNext, notebook_cases),
+    (Mistake::ReadsTheEarliest, crowded_cases),
+    (Mistake::ReadsTheLatest, crowded_cases),
     (Mistake::CountsRefused, tally_cases),
     (Mistake::ZeroesTheRest, written_cases),
     (Mistake::ZeroesTheRest, written_grown_cases),
@@ -179,6 +196,7 @@ const FINDERS: [Finder; 68] = [
     (Mistake::SwapsVerdicts, printed_cases),
     (Mistake::PrintsTheNextTarget, reported_cases),
     (Mistake::PrintsTheNextTarget, printed_cases),
+    (Mistake::PrintsTheEarliest, crowded_cases),
     (Mistake::PrintsTotalsFirst, reported_cases),
     (Mistake::PrintsTotalsFirst, printed_cases),
     (Mistake::LeavesOutIdleRules, reported_cases),

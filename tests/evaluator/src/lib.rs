@@ -30,6 +30,7 @@
 //! Generators of test cases, all from a seed:
 //!
 //! - [`random`]: rules and cycles around the critical values.
+//! - [`crowded`]: rules and cycles in which many events are eligible.
 //! - [`damage`]: texts, valid and damaged.
 //! - [`fabricate`]: run records, grown and changed.
 //!
@@ -39,6 +40,7 @@
 //! - [`stored`]: the texts of tests/cases and examples/.
 
 pub mod condition;
+pub mod crowded;
 pub mod damage;
 pub mod fabricate;
 pub mod listing;

@@ -64,8 +64,9 @@ pub fn standing_in(
     if differ(&outcomes) {
         return Standing::Open;
     }
-    // Where the verdict is decided, the target is too: an eligible position of
-    // the prefix stays the earliest, for all added ones come after it.
+    // Where the verdict is decided, the target is too: the events at or before
+    // the activation are all taken, and of those after it the first eligible
+    // one stays the first, for all added ones come after it.
     assert_eq!(outcomes, BTreeSet::from([closed]), "the target changed");
     closed
 }

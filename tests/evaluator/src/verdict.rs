@@ -1,8 +1,8 @@
 //! The verdict on an activation in a finished cycle.
 //!
 //! Each template is given as the list of positions that it admits. The
-//! eligible positions are those of the list that suit the activation, and the
-//! verdict follows from the least of them.
+//! eligible positions are those of the list that suit the activation. Whether
+//! there is one decides the verdict, and the nearest of them is its target.
 
 use crate::condition::meets;
 use crate::model::{Event, Rule, Standing};
@@ -92,17 +92,24 @@ pub fn eligible(rule: &Rule, events: &[Event], position: usize) -> BTreeSet<usiz
         .collect()
 }
 
+/// "the latest eligible position at or before the activation; failing that,
+/// the first after it".
+fn nearest(eligible: &BTreeSet<usize>, position: usize) -> Option<usize> {
+    let before = eligible.range(..=position).next_back();
+    let after = eligible.range(position + 1..).next();
+    before.or(after).copied()
+}
+
 /// The standing at `position` (1 to the number of events) in a finished
-/// cycle: idle, fulfilled or violated. "The verdict names the earliest
-/// eligible j, or 0 if there is none."
+/// cycle: idle, fulfilled or violated. The target is the nearest eligible
+/// position, "or 0 if there is none".
 pub fn verdict(rule: &Rule, events: &[Event], position: usize) -> Standing {
     if !is_activation(rule, &events[position - 1]) {
         return Standing::Idle;
     }
     let eligible = eligible(rule, events, position);
-    let target = eligible
-        .first()
-        .map_or(0, |j| u16::try_from(*j).expect("a position fits 16 bits"));
+    let target = nearest(&eligible, position)
+        .map_or(0, |j| u16::try_from(j).expect("a position fits 16 bits"));
     // "These are fulfilled if an eligible j exists"; the negatives are
     // "violated if one exists".
     let negative = positive_template(rule.code).1;

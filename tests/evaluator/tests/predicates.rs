@@ -1,8 +1,10 @@
 //! The finished verdicts once more, with document 01's words as a predicate on
 //! two positions: an eligible pair, the window as a difference of times, and
-//! "no activation of the rule at any position strictly between" as a
-//! quantifier. The evaluator goes by lists of positions and ranges of times.
+//! "no activation of the rule at any position strictly between" and the choice
+//! of the target as quantifiers. The evaluator goes by lists of positions and
+//! ranges of times.
 
+use evaluator::crowded::{crowded_cycle, crowded_rule};
 use evaluator::random::{random_cycle, random_rule, Random};
 use evaluator::Standing::{self, Fulfilled, Idle, Violated};
 use evaluator::{verdicts, Comparison, Event, Operator, Reference, Rule};
@@ -61,11 +63,19 @@ fn is_eligible(rule: &Rule, events: &[Event], i: usize, j: usize) -> bool {
     admitted && fits(rule, &events[i - 1], &events[j - 1])
 }
 
+/// "the latest eligible position at or before the activation; failing that, the
+/// first after it": the positions that go before j in this choice are not
+/// eligible.
+fn is_named(rule: &Rule, events: &[Event], i: usize, j: usize) -> bool {
+    let mut preferred = if j <= i { j + 1..i + 1 } else { 1..j };
+    is_eligible(rule, events, i, j) && preferred.all(|k| !is_eligible(rule, events, i, k))
+}
+
 fn by_predicate(rule: &Rule, events: &[Event], i: usize) -> Standing {
     if !activates(rule, &events[i - 1]) {
         return Idle;
     }
-    let found = (1..=events.len()).find(|j| is_eligible(rule, events, i, *j));
+    let found = (1..=events.len()).find(|j| is_named(rule, events, i, *j));
     match (found, rule.code <= 7) {
         (Some(j), true) => Fulfilled(j as u16),
         (None, true) => Violated(0),
@@ -119,4 +129,17 @@ fn random_rules_and_cycles() {
         named += counts.1;
     }
     assert!(judged > 20_000 && named > 2_000, "{judged} {named}");
+}
+
+#[test]
+fn crowded_rules_and_cycles() {
+    let mut random = Random::new(14);
+    let mut named = 0;
+    for _ in 0..4000 {
+        let rule = crowded_rule(&mut random);
+        let length = 1 + random.below(24);
+        let events = crowded_cycle(&mut random, length);
+        named += compare(&rule, &events).1;
+    }
+    assert!(named > 8_000, "{named}");
 }

@@ -233,6 +233,26 @@ fn undecided_standings_follow_from_the_events_in_the_record() {
 }
 
 #[test]
+fn a_take_names_the_nearest_only_where_it_judges() {
+    // Responded existence: of 1, 2, 4 and 5 the nearest to the activation at 3
+    // is 2, and to the one at 6 it is 5.
+    let events = pairs(&[(0, 2), (1, 2), (2, 1), (3, 2), (4, 2)]);
+    let record = run(&plain(1), &events);
+    for kept in [1, 2, 4, 5].map(Fulfilled) {
+        let mut record = record.clone();
+        record.standings[place(1, 3)] = kept;
+        let expected = [Idle, Idle, kept, Idle, Idle, Fulfilled(5)];
+        assert_eq!(row(&take(record, 5, 1)), expected);
+    }
+    for stale in [Idle, Open] {
+        let mut record = record.clone();
+        record.standings[place(1, 3)] = stale;
+        let expected = [Idle, Idle, Fulfilled(2), Idle, Idle, Fulfilled(5)];
+        assert_eq!(row(&take(record, 5, 1)), expected);
+    }
+}
+
+#[test]
 fn a_stale_open_at_no_activation_becomes_idle() {
     let mut record = run(&plain(2), &pairs(&[(0, 9), (0, 1)]));
     record.standings[place(1, 1)] = Open;

@@ -27,7 +27,7 @@ fn code_1_responded_existence() {
     assert_eq!(judge(1, &around), [Idle, Idle, Fulfilled(2), Idle]);
     assert_eq!(judge_own(1, &[(0, 9), (3, 1)]), [Idle, Fulfilled(2)]);
     let twice = [(0, 1), (0, 1)];
-    assert_eq!(judge_own(1, &twice), [Fulfilled(1), Fulfilled(1)]);
+    assert_eq!(judge_own(1, &twice), [Fulfilled(1), Fulfilled(2)]);
 }
 
 #[test]
@@ -80,9 +80,9 @@ fn code_5_precedence() {
     assert_eq!(judge(5, &[(0, 1), (5, 2)]), [Violated(0), Idle]);
     assert_eq!(judge(5, &[(5, 1), (5, 2)]), [Violated(0), Idle]);
     let two = [(0, 9), (1, 2), (2, 2), (3, 1), (4, 1)];
-    let earliest = [Idle, Idle, Idle, Fulfilled(2), Fulfilled(2)];
-    assert_eq!(judge(5, &two), earliest);
-    let own = [Fulfilled(1), Fulfilled(1)];
+    let latest = [Idle, Idle, Idle, Fulfilled(3), Fulfilled(3)];
+    assert_eq!(judge(5, &two), latest);
+    let own = [Fulfilled(1), Fulfilled(2)];
     assert_eq!(judge_own(5, &[(0, 1), (4, 1)]), own);
 }
 
@@ -92,9 +92,9 @@ fn code_6_alternate_precedence() {
     assert_eq!(judge(6, &[(0, 1), (5, 2)]), [Violated(0), Idle]);
     let between = [(0, 2), (1, 1), (2, 1)];
     assert_eq!(judge(6, &between), [Idle, Fulfilled(1), Violated(0)]);
-    // Of the targets after the activation at 2, the earliest is named.
+    // Of the targets after the activation at 2, the latest is named.
     let later = [(0, 2), (1, 1), (2, 2), (3, 2), (4, 9), (5, 1)];
-    let expected = [Idle, Fulfilled(1), Idle, Idle, Idle, Fulfilled(3)];
+    let expected = [Idle, Fulfilled(1), Idle, Idle, Idle, Fulfilled(4)];
     assert_eq!(judge(6, &later), expected);
     // j < i: an activation is no target of itself; the one before may be.
     assert_eq!(judge_own(6, &[(0, 1)]), [Violated(0)]);
@@ -140,7 +140,7 @@ fn code_10_not_precedence() {
     assert_eq!(judge(10, &[(0, 1), (5, 2)]), [Fulfilled(0), Idle]);
     let before = [(0, 9), (1, 2), (2, 9), (3, 1)];
     assert_eq!(judge(10, &before), [Idle, Idle, Idle, Violated(2)]);
-    let own = [Violated(1), Violated(1)];
+    let own = [Violated(1), Violated(2)];
     assert_eq!(judge_own(10, &[(0, 1), (4, 1)]), own);
 }
 

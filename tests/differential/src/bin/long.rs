@@ -8,7 +8,7 @@
 //! was compared, or the first difference. A difference names its kind and seed;
 //! `long THAT_SEED 1 THAT_KIND` shows it again.
 
-use differential::cases::{notebook, printed, records, reported, reports, running};
+use differential::cases::{crowded, notebook, printed, records, reported, reports, running};
 use differential::cases::{tally, texts, written};
 use differential::compare::compare;
 use differential::counts::Counts;
@@ -23,8 +23,10 @@ use std::time::Instant;
 type Kind = (&'static str, fn(u64) -> Case);
 
 /// Each kind of case that `probe` answers.
-const KINDS: [Kind; 14] = [
+const KINDS: [Kind; 16] = [
     (running::KIND, running::case),
+    (crowded::KIND, crowded::case),
+    (crowded::STALE, crowded::stale_case),
     (records::KIND, records::case),
     (records::STALE, records::stale_case),
     (texts::RULES, texts::rules_case),
@@ -41,8 +43,9 @@ const KINDS: [Kind; 14] = [
 ];
 
 /// The kinds of long cycles; of these a hundredth of the cases is compared.
-const FULL_KINDS: [Kind; 2] = [
+const FULL_KINDS: [Kind; 3] = [
     (running::FULL, running::full_case),
+    (crowded::FULL, crowded::full_case),
     (notebook::FULL, notebook::full_case),
 ];
 

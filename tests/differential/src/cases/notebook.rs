@@ -33,16 +33,21 @@ fn case_of(mut session: Session, random: &mut Random, rules: &[Rule], length: us
     grow(&mut session, random, rules, length);
     session.close().expect("a run that is not closed");
     compare_closed(&mut session);
+    read_again(&mut session, rules);
+    session.case
+}
+
+/// The notebook on the texts of the rules and the events of a closed run.
+pub(super) fn read_again(session: &mut Session, rules: &[Rule]) {
     let grown = session.run.clone();
-    let taken = &grown.events[..length];
+    let taken = &grown.events[..grown.count as usize];
     let answer = session.notebook(write_rules(rules), write_cycle(taken));
     answer.expect("texts of valid rules and taken events");
     // The evaluator's two ways agree, so both are compared with one list.
     let same = differing_used_fields(&grown, &session.run);
     assert_eq!(same, Ok(()), "seed {}", session.case.seed);
-    compare_closed(&mut session);
+    compare_closed(session);
     session.compare_notebook_run();
-    session.case
 }
 
 fn grow(session: &mut Session, random: &mut Random, rules: &[Rule], length: usize) {

@@ -5,7 +5,7 @@ use crate::script::{table_of, Case, Session};
 use evaluator::fabricate::{fabricated, fill_unused, random_event, random_record};
 use evaluator::random::{random_cycle, random_rules, Random};
 use evaluator::Standing::{Fulfilled, Idle, Open, Violated};
-use evaluator::{place, start, Event, Record, Refusal};
+use evaluator::{place, start, Event, Record, Refusal, Rule};
 
 /// One record in so many is filled with values outside every limit where
 /// nothing reads them. This takes thousands of commands.
@@ -115,9 +115,16 @@ pub fn stale_case(seed: u64) -> Case {
 /// So many rules and events, not closed, with any standings within the limits.
 pub fn stale_run(random: &mut Random, rules: usize, length: usize) -> Record {
     let rules = random_rules(random, rules);
-    let mut run = start(&table_of(&rules)).expect("a valid table");
+    let events = random_cycle(random, &rules, length);
+    with_any_standings(random, &rules, &events)
+}
+
+/// The run of these rules and events with any standings within the limits.
+pub(super) fn with_any_standings(random: &mut Random, rules: &[Rule], events: &[Event]) -> Record {
+    let length = events.len();
+    let mut run = start(&table_of(rules)).expect("a valid table");
     run.count = length as u64;
-    run.events[..length].copy_from_slice(&random_cycle(random, &rules, length));
+    run.events[..length].copy_from_slice(events);
     for rule in 1..=rules.len() {
         for position in 1..=length {
             let target = random.below(length + 1) as u16;

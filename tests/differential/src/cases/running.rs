@@ -28,18 +28,24 @@ pub fn full_case(seed: u64) -> Case {
 
 fn run_of(mut session: Session, random: &mut Random, rules: &[Rule], length: usize) -> Case {
     compare_all(&mut session, random);
-    for event in random_cycle(random, rules, length) {
-        if random.one_in(5) {
-            let refused = refused_event(random, &session.run, event);
-            take(&mut session, random, refused).expect_err("a refusal");
-        }
-        take(&mut session, random, event).expect("a well-formed event");
-    }
-    if length == 256 {
-        take_at_the_limit(&mut session, random);
-    }
-    close(&mut session, random);
+    let events = random_cycle(random, rules, length);
+    run_through(&mut session, random, &events);
     session.case
+}
+
+/// Takes the events, with refused ones mixed in, and closes.
+pub(super) fn run_through(session: &mut Session, random: &mut Random, events: &[Event]) {
+    for event in events {
+        if random.one_in(5) {
+            let refused = refused_event(random, &session.run, *event);
+            take(session, random, refused).expect_err("a refusal");
+        }
+        take(session, random, *event).expect("a well-formed event");
+    }
+    if events.len() == 256 {
+        take_at_the_limit(session, random);
+    }
+    close(session, random);
 }
 
 /// After every take all standings and totals are compared.

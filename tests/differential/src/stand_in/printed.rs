@@ -1,5 +1,6 @@
 //! What the stand-in prints for a run and for two texts.
 
+use super::targets::printed_with_earliest;
 use super::written::Source;
 use super::{Mistake, State};
 use evaluator::report::LARGEST_FILE;
@@ -17,9 +18,12 @@ impl State {
 
     pub(super) fn printed_text(&self, rules: &[u8], cycle: &[u8]) -> Vec<u8> {
         let large = rules.len().max(cycle.len()) > LARGEST_FILE;
-        let text = match large && self.has(Mistake::PrintsLargeTextsAs13) {
-            true => report(Some(rules.to_vec()), Some(cycle.to_vec())),
-            false => printed(rules, cycle),
+        let text = match self.mistake {
+            Mistake::PrintsLargeTextsAs13 if large => {
+                report(Some(rules.to_vec()), Some(cycle.to_vec()))
+            }
+            Mistake::PrintsTheEarliest => printed_with_earliest(rules, cycle),
+            _ => printed(rules, cycle),
         };
         self.mistaken_lines(text)
     }
