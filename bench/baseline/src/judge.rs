@@ -231,6 +231,29 @@ fn decide(code: u8, target: u16) -> Standing {
     }
 }
 
+// Functions of their own: inlined, the two loops take a quarter more instructions.
+#[inline(never)]
+fn last_fitting(
+    b: &Bound,
+    checks: &[Check],
+    events: &[Event],
+    start: usize,
+    end: usize,
+) -> Option<usize> {
+    (start..end).rev().find(|&q| fits(b, checks, &events[q]))
+}
+
+#[inline(never)]
+fn first_fitting(
+    b: &Bound,
+    checks: &[Check],
+    events: &[Event],
+    start: usize,
+    end: usize,
+) -> Option<usize> {
+    (start..end).find(|&q| fits(b, checks, &events[q]))
+}
+
 fn judge_activation(
     running: bool,
     rule: &Rule,
@@ -245,9 +268,9 @@ fn judge_activation(
     let checks = bound.tests.map(|t| check_of(&t));
     let checks = &checks[..bound.count as usize];
     let end = stop.min(n);
-    let here = |q: &usize| fits(&bound, checks, &events[*q]);
-    let last = (start..end.min(p + 1)).rev().find(here);
-    match last.or_else(|| (p + 1..end).find(here)) {
+    let found = last_fitting(&bound, checks, events, start, end.min(p + 1))
+        .or_else(|| first_fitting(&bound, checks, events, p + 1, end));
+    match found {
         Some(q) => decide(rule.code, (q + 1) as u16),
         None if running && stop > n && can_suit(&bound, horizon) => Standing::Open,
         None => decide(rule.code, 0),
