@@ -13,7 +13,7 @@ eventsFrom time (a ∷ activities) = event time a ∷ eventsFrom (suc time) acti
 abbrev pub events : List ℕ → List Event
 events activities = eventsFrom 0 activities
 
--- a rule from activity 1 to an activity
+-- the rule from activity 1 to a target activity, with a code
 abbrev pub to : ℕ → ℕ → Rule
 to target code = rule code target (window 0 Never) always
 

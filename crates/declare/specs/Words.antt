@@ -1,5 +1,5 @@
--- Document 01's sentences as statements over positions, beside the definitions that compute. Each
--- record is proved in proofs/Words.
+-- The sentences of document 01, and of document 02 where a card changed one, as statements over
+-- positions, beside the definitions that compute. Each record is proved in proofs/Words.
 use mathlib.Core.Path.{_≡_}
 use mathlib.Core.Logic.{_↔_}
 use mathlib.Core.Bool.{true, false, cond, _&&_}

@@ -66,15 +66,8 @@ fn judge<'a>(
     let bound = bound_of(rule, act);
     let n = row.len();
     let stop = span.stop;
-    let j = nearest_suiting(
-        times,
-        activities,
-        numbers,
-        bound,
-        span.start,
-        p + 1,
-        min(stop, n),
-    );
+    let end = min(stop, n);
+    let j = nearest_suiting(times, activities, numbers, bound, span.start, p + 1, end);
     if 0 < j {
         return decide(polarity, target_of(j));
     }

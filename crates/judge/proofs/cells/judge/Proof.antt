@@ -81,11 +81,11 @@ span-of-requires c κs = search needs
 bound-of-requires : tie.Need-bound-of-requires
 bound-of-requires c κs = search needs
 
-add-nearest-suiting : tie.Need-add-nearest-suiting
-add-nearest-suiting c = search needs
-
 min-requires : tie.Need-min-requires
 min-requires c κs = search needs
+
+add-nearest-suiting : tie.Need-add-nearest-suiting
+add-nearest-suiting c = search needs
 
 nearest-suiting-requires : tie.Need-nearest-suiting-requires
 nearest-suiting-requires c κs = (span-start _ _ _ _ _ (c .before .before .span-of .ensures), omega arith)
@@ -142,8 +142,8 @@ judge-spec =
     template-of-requires
     span-of-requires
     bound-of-requires
-    add-nearest-suiting
     min-requires
+    add-nearest-suiting
     nearest-suiting-requires
     target-of-requires
     decide-requires
