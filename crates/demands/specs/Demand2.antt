@@ -1,7 +1,7 @@
 -- Demand 2: "in a closed cycle" exactly the events that fit are activations, each "fulfilled when
--- its template's published formula holds there, otherwise violated, and the target named is" "the
--- latest eligible position at or before the activation; failing that, the first after it". All of
--- it of what the call standing answers.
+-- its template's published formula holds there, otherwise violated, and the target named is the one
+-- document 01 picks", with document 02's card 2: "the latest eligible position at or before the
+-- activation; failing that, the first after it". All of it of what the call standing answers.
 use mathlib.Core.Path.{_≡_}
 use mathlib.Core.Logic.{_↔_}
 use mathlib.Core.Bool.{true, false}
