@@ -1,4 +1,4 @@
--- The edge cycles, the listing and the further cases, by computation over the definitions.
+-- The edge cycles, the listing and the other cases, by computation over the definitions.
 use mathlib.Core.Path.{refl}
 use Rattle.declare.specs.Lists.{all, any, noneBetween, firstUpTo, lastUpTo, firstPast, nearest}
 use Rattle.declare.specs.Comparisons.{plus, holds, referenceOf, testOf, passes}
@@ -15,7 +15,10 @@ use Rattle.declare.specs.Answers.{_>>_, require, isAccepted}
 use Rattle.declare.specs.Steps.{admits, isTaken, takenAfter, taken}
 use Rattle.declare.specs.EdgeCycles.{edgeCycles, listing}
 use Rattle.declare.specs.TargetCases.{eventsFrom, targets}
-use Rattle.declare.specs.FurtherCases.{activations, windows, twelve, comparisons, conditions, limits, withLine, withoutLine, offers, answers, takenTimes, Checked}
+use Rattle.declare.specs.TemplateCases.{activations, windows, twelve}
+use Rattle.declare.specs.ConditionCases.{comparisons, conditions}
+use Rattle.declare.specs.LimitCases.{limits, withLine, withoutLine, offers, answers, takenTimes}
+use Rattle.declare.specs.Checked.{Checked}
 
 pub checked : Checked
 unfolding offers answers takenTimes admits isAccepted isTaken takenAfter taken _>>_ require withLine withoutLine numberOf hasLine edgeCycles listing activations windows twelve comparisons conditions limits eventsFrom targets all any noneBetween firstUpTo lastUpTo firstPast nearest plus holds referenceOf testOf passes comparisonsOf testsOf met least greatest inRange isActivity readingsInRange wellFormed nonFallingFrom nonFalling lastFrom lastTime noEvent eventAt isTemplate isReading validReference validComparison noneTwice validCondition validEnd validWindow validHead validRule rulesOf validTable isActivation activationAt beforeEnd within correlates suits templates templateOf inReach eligible target decided verdict horizon continuation asks meets after edgeOf edgeAt edge candidates someMeets satisfiable soonest hasRoom canCome undecided standing

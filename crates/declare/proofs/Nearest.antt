@@ -1,14 +1,12 @@
 -- The laws of `nearest`: what decides it, and that further positions do not change one that was
 -- found. Those up to i are all there, and the first past i stays the first.
-use mathlib.Core.Path.{_≡_, refl, ap, ap₂}
-use mathlib.Core.Bool.{Bool, true, false, _&&_, and-false}
+use mathlib.Core.Path.{_≡_, refl, _∙_, ap, ap₂}
+use mathlib.Core.Bool.{Bool, true, false, _&&_}
 use Prim.Native.Nat.{ℕ, zero, suc, min, _≤_, _<_}
 use native.Mathlib.Omega.{arith}
-use borrow.Author.Tests.{lt-ltb}
 use lib.Dec.{ltb}
 use Rattle.declare.specs.Lists.{orElse, lastUpTo, firstPast, nearest}
-use Rattle.declare.proofs.Booleans.{both}
-use Rattle.declare.proofs.Positions.{first-same, first-stays, first-cut, first-here, last-same, last-cut}
+use Rattle.declare.proofs.Positions.{first-same, first-stays, first-cut, first-here, past-it, not-passing, last-same, last-cut}
 
 pub nearest-same : (p q : ℕ → Bool) (i n : ℕ) → ((k : ℕ) → 1 ≤ k → k ≤ n → p k ≡ q k) → nearest p i n ≡ nearest q i n
 unfolding nearest firstPast
@@ -21,7 +19,7 @@ pub nearest-cut : (p : ℕ → Bool) (i n N : ℕ) → n ≤ N → ((k : ℕ) �
 unfolding nearest firstPast
 nearest-cut p i n N l f =
     ap₂ orElse (last-cut p (min i n) (min i N) (omega arith) (λ k a b. f k (omega arith) (omega arith)))
-    (first-cut (λ j. ltb i j && p j) n N l (λ k a b. rw (f k a b) (and-false (ltb i k))))
+    (first-cut (λ j. ltb i j && p j) n N l (λ k a b. not-passing p i k (f k a b)))
 
 -- ---- one up to i, or none
 
@@ -59,4 +57,4 @@ unfolding nearest firstPast
 nearest-here p i n here h e =
     let none : (lastUpTo p (min i n) ≡ 0) × (firstPast p i n ≡ 0) = or-zero (lastUpTo p (min i n)) (firstPast p i n) h in
     let cut : min i (suc n) ≡ min i n = omega arith in
-    rw (cut, none .0) (first-here (λ j. ltb i j && p j) n (none .1) (both (lt-ltb i (suc n) (omega arith)) e))
+    rw (cut, none .0) (first-here (λ j. ltb i j && p j) n (none .1) (past-it p i (suc n) (omega arith) ∙ e))

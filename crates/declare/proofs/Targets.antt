@@ -13,7 +13,7 @@ use Rattle.declare.specs.Lists.{orElse, firstUpTo, lastUpTo, firstPast, 
 use Rattle.declare.specs.Verdicts.{eligible, target}
 use Rattle.declare.specs.Words.{NoneEligible, MayName, Names}
 use Rattle.declare.proofs.Booleans.{and-left, and-right}
-use Rattle.declare.proofs.Positions.{Earliest, earliest, Latest, latest}
+use Rattle.declare.proofs.Positions.{Earliest, earliest, past-it, Latest, latest}
 use Rattle.declare.proofs.Nearest.{nearest-same, nearest-cut, nearest-stays, nearest-here}
 use Rattle.declare.proofs.Extension.{eligible-same}
 
@@ -23,24 +23,24 @@ module _ (r : Rule) (es : List Event) (i : ℕ) where
   abbrev p : ℕ → Bool
   p = eligible r es i
 
-  -- none up to i passes, and k is not one past i that does
-  not-past : Latest p (min i (length es)) 0 → (k : ℕ) → 1 ≤ k → k ≤ length es → (ltb i k && p k) ≡ false → p k ≡ false
-  not-past none k a b e = go (ltb i k) refl
+  -- k passes neither up to i nor past it
+  neither : Latest p (min i (length es)) 0 → (k : ℕ) → 1 ≤ k → k ≤ length es → (ltb i k && p k) ≡ false → p k ≡ false
+  neither none k a b e = go (ltb i k) refl
     where
       go : (t : Bool) → ltb i k ≡ t → p k ≡ false
-      go true q = sym (ap (λ (t : Bool). t && p k) q) ∙ e
+      go true q = sym (past-it p i k (ltb-true i k q)) ∙ e
       go false q = none .2 k a (omega (arith, ltb-false i k q))
 
   names-past : (f : ℕ) → Latest p (min i (length es)) 0 → Earliest (λ j. ltb i j && p j) (length es) f → Names r es i f
   names-past zero none e =
-      let absent : NoneEligible r es i = λ k a b. not-past none k a b (e k a b) in
+      let absent : NoneEligible r es i = λ k a b. neither none k a b (e k a b) in
       record { may = absent; latest = λ _ k a b c. absent k a c; first = λ l. absurd (omega arith) }
   names-past (suc f) none e =
       let past : i < suc f = ltb-true i (suc f) (and-left (ltb i (suc f)) (p (suc f)) (e .1)) in
       record {
         may = (e .0, and-right (ltb i (suc f)) (p (suc f)) (e .1));
         latest = λ l. absurd (omega arith);
-        first = λ _ k a b. not-past none k a (omega (arith, e .0)) (e .2 k a b);
+        first = λ _ k a b. neither none k a (omega (arith, e .0)) (e .2 k a b);
       }
 
   names-found : (l f : ℕ) → Latest p (min i (length es)) l → Earliest (λ j. ltb i j && p j) (length es) f → Names r es i (orElse l f)

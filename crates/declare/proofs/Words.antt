@@ -199,7 +199,7 @@ target-in Negative (suc j) = refl
 
 -- a target other than 0 is eligible, and at 0 none is
 module _ (r : Rule) (es : List Event) (i : ℕ) where
-  not-both : SomeEligible r es i → NoneEligible r es i → ⊥
+  pub not-both : SomeEligible r es i → NoneEligible r es i → ⊥
   not-both s n = true≢false (sym (s .3) ∙ n (s .0) (s .1) (s .2))
 
   some : (j : ℕ) → MayName r es i (suc j) → SomeEligible r es i
@@ -207,11 +207,11 @@ module _ (r : Rule) (es : List Event) (i : ℕ) where
 
   -- a test of the target that passes just where there is one, and one that passes just where there
   -- is none
-  tells-some : (t : ℕ → Bool) → t 0 ≡ false → ((j : ℕ) → t (suc j) ≡ true) → (j : ℕ) → MayName r es i j → (t j ≡ true) ↔ SomeEligible r es i
+  pub tells-some : (t : ℕ → Bool) → t 0 ≡ false → ((j : ℕ) → t (suc j) ≡ true) → (j : ℕ) → MayName r es i j → (t j ≡ true) ↔ SomeEligible r es i
   tells-some t a b zero n = ((λ h. absurd (false≢true (sym a ∙ h))), (λ s. absurd (not-both s n)))
   tells-some t a b (suc j) n = ((λ _. some j n), (λ _. b j))
 
-  tells-none : (t : ℕ → Bool) → t 0 ≡ true → ((j : ℕ) → t (suc j) ≡ false) → (j : ℕ) → MayName r es i j → (t j ≡ true) ↔ NoneEligible r es i
+  pub tells-none : (t : ℕ → Bool) → t 0 ≡ true → ((j : ℕ) → t (suc j) ≡ false) → (j : ℕ) → MayName r es i j → (t j ≡ true) ↔ NoneEligible r es i
   tells-none t a b zero n = ((λ _. n), (λ _. a))
   tells-none t a b (suc j) n = ((λ h. absurd (false≢true (sym (b j) ∙ h))), (λ m. absurd (not-both (some j n) m)))
 
@@ -232,29 +232,26 @@ module _ (r : Rule) (es : List Event) (i : ℕ) where
   -- ---- whichever is named
 
   -- there is one, or there is none; that is all that a decision depends on
-  same-found : (j k : ℕ) → MayName r es i j → MayName r es i k → eqb j 0 ≡ eqb k 0
-  same-found zero zero a b = refl
+  same-found : (j k : ℕ) → MayName r es i j → MayName r es i k → (eqb j 0 ≡ eqb k 0) × ((n : Polarity) → unnamed (decided n j) ≡ unnamed (decided n k))
+  unfolding decided
+  same-found zero zero a b = (refl, λ n. refl)
   same-found zero (suc k) a b = absurd (not-both (some k b) a)
   same-found (suc j) zero a b = absurd (not-both (some j a) b)
-  same-found (suc j) (suc k) a b = ne-eqb (suc j) 0 (omega arith) ∙ sym (ne-eqb (suc k) 0 (omega arith))
-
-  same-decided : (n : Polarity) (j k : ℕ) → MayName r es i j → MayName r es i k → unnamed (decided n j) ≡ unnamed (decided n k)
-  unfolding decided
-  same-decided n zero zero a b = refl
-  same-decided n zero (suc k) a b = absurd (not-both (some k b) a)
-  same-decided n (suc j) zero a b = absurd (not-both (some j a) b)
-  same-decided Positive (suc j) (suc k) a b = refl
-  same-decided Negative (suc j) (suc k) a b = refl
+  same-found (suc j) (suc k) a b = (ne-eqb (suc j) 0 (omega arith) ∙ sym (ne-eqb (suc k) 0 (omega arith)), alike)
+    where
+      alike : (n : Polarity) → unnamed (decided n (suc j)) ≡ unnamed (decided n (suc k))
+      alike Positive = refl
+      alike Negative = refl
 
   unmoved : (h j : ℕ) → MayName r es i j → Unmoved r es h i j
   unfolding verdict standing undecided
   unmoved h j m = record { finished = finished (activationAt r es i); running = running (activationAt r es i) }
     where
       found : eqb (target r es i) 0 ≡ eqb j 0
-      found = same-found (target r es i) j (named r es i .may) m
+      found = same-found (target r es i) j (named r es i .may) m .0
 
       same : unnamed (decided (polarityOf r) (target r es i)) ≡ unnamed (decided (polarityOf r) j)
-      same = same-decided (polarityOf r) (target r es i) j (named r es i .may) m
+      same = same-found (target r es i) j (named r es i .may) m .1 (polarityOf r)
 
       finished : (a : Bool) → unnamed (cond a (decided (polarityOf r) (target r es i)) Idle) ≡ unnamed (cond a (decided (polarityOf r) j) Idle)
       finished true = same

@@ -19,5 +19,8 @@ pub mod Steps
 pub mod Exactness
 pub mod Words
 pub mod EdgeCycles
+pub mod TemplateCases
 pub mod TargetCases
-pub mod FurtherCases
+pub mod ConditionCases
+pub mod LimitCases
+pub mod Checked

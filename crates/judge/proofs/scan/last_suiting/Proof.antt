@@ -7,8 +7,9 @@ use native.Mathlib.Omega.{arith}
 use borrow.Author.Tests.{lt-ltb}
 use Rattle.declare.specs.Lists.{lastUpTo}
 use Rattle.declare.proofs.Booleans.{both}
+use Rattle.declare.proofs.Positions.{not-past, not-passing}
 use Rattle.judge.specs.Columns.{suitsIn, suitsPast}
-use Rattle.judge.proofs.Spans.{not-past, not-passing, last-again, last-found, last-end}
+use Rattle.judge.proofs.Spans.{last-again, last-found, last-end}
 use Rattle.judge.proofs.scan.last_suiting.Statement.{statement}
 use Rattle.judge.proofs.scan.last_suiting.Tie as tie
 
