@@ -11,12 +11,12 @@ use native.Mathlib.Omega.{arith}
 use borrow.Author.Tests.{ltb-true, leb-true, lt-ltb, le-leb, eq-eqb}
 use lib.Dec.{leb, eqb}
 use lib.ListN.{length, getD, length-append}
-use Rattle.declare.specs.Types.{Event, Comparison, End, Never, At, Window, Rule}
+use Rattle.declare.specs.Types.{Event, Comparison, Condition, End, Never, At, Window, Rule}
 use Rattle.declare.specs.Lists.{all}
 use Rattle.declare.specs.Comparisons.{testOf, passes}
 use Rattle.declare.specs.Conditions.{comparisonsOf, testsOf, met}
 use Rattle.declare.specs.Events.{latest, isActivity, readingsInRange, wellFormed, nonFallingFrom, nonFalling, lastTime, noEvent, eventAt}
-use Rattle.declare.specs.Rules.{isTemplate, isReading, validComparison, noneTwice, validCondition, validWindow, validHead, validRule}
+use Rattle.declare.specs.Rules.{isTemplate, isReading, validComparison, noneTwice, validCondition, validWindow, validHead, fitsTemplate, validRule}
 use Rattle.declare.specs.Suits.{activationAt, beforeEnd, within, between, correlates, suits}
 use Rattle.declare.specs.Templates.{inReach, reachOf}
 use Rattle.declare.specs.Verdicts.{eligible}
@@ -25,6 +25,7 @@ use Rattle.declare.specs.Reachability.{satisfiable, soonest, hasRoom, ca
 use Rattle.declare.proofs.Booleans.{and-left, and₂, and₃, and₄, both, both₃, all-at, all-map}
 use Rattle.declare.proofs.Positions.{reach-next}
 use Rattle.declare.proofs.Satisfiability.{sound, complete, bringing, bringing-time, bringing-activity, bringing-in-range}
+use Rattle.declare.proofs.Zero.{eligible-event}
 use Rattle.declare.proofs.Extension.{event-same, event-added, event-next, in-reach-same, start-first, position-last}
 
 -- ---- the parts of the definitions
@@ -45,9 +46,8 @@ correlates-parts : (r : Rule) (a e : Event) → correlates r a e ≡ true → (e
 unfolding correlates met
 correlates-parts r a e h = and₂ h
 
-pub eligible-parts : (r : Rule) (es : List Event) (i j : ℕ) → eligible r es i j ≡ true → (suits r (eventAt es i) (eventAt es j) ≡ true) × (inReach (reachOf r) (activationAt r es) i j ≡ true)
-unfolding eligible
-eligible-parts r es i j h = and₂ h
+pub eligible-parts : (r : Rule) (es : List Event) (i j : ℕ) → 1 ≤ i → eligible r es i j ≡ true → (suits r (eventAt es i) (eventAt es j) ≡ true) × (inReach (reachOf r) (activationAt r es) i j ≡ true)
+eligible-parts r es i j low h = and₂ (sym (eligible-event r es i low j) ∙ h)
 
 pub continuation-parts : (h : ℕ) (added : List Event) → continuation h added ≡ true → (nonFallingFrom h added ≡ true) × (all wellFormed added ≡ true)
 unfolding continuation
@@ -60,7 +60,7 @@ unfolding beforeEnd
 before-down Never c d l h = refl
 before-down (At b) c d l h = lt-ltb c b (omega (arith, ltb-true d b h))
 
-room : (w : Window) (t h s : ℕ) → t ≤ h → h ≤ s → s ≤ latest → within w (between t s) ≡ true → hasRoom w t h ≡ true
+pub room : (w : Window) (t h s : ℕ) → t ≤ h → h ≤ s → s ≤ latest → within w (between t s) ≡ true → hasRoom w t h ≡ true
 unfolding hasRoom within soonest
 room w t h s a b c k =
     let p = within-parts w (between t s) k in
@@ -79,7 +79,7 @@ comes r es added h i j falls past low high beyond end more eligible-there =
     let e : Event = getD added (j - suc (length es)) noEvent in
     let l : j - suc (length es) < length added = omega (arith, length-append es added) in
     let c = continuation-parts h added more in
-    let g = eligible-parts r (es ++ added) i j eligible-there in
+    let g = eligible-parts r (es ++ added) i j low eligible-there in
     let w = well-formed-parts e (all-at wellFormed added (j - suc (length es)) noEvent (c .1) l) in
     let u : suits r a e ≡ true = rw (← event-same es added i low high, ← event-added es added j beyond) (g .0) in
     let s = suits-parts r a e u in
@@ -105,30 +105,38 @@ coming-activity : (r : Rule) (es : List Event) (h i : ℕ) → (coming r es h i)
 unfolding coming
 coming-activity r es h i = bringing-activity (testsOf (eventAt es i) (r .correlation)) (soonest (r .window) ((eventAt es i) .time) h) (r .target)
 
+-- what a valid rule is
+pub record ValidRule (r : Rule) : Type 0 where
+  pub template : isTemplate (r .code) ≡ true
+  pub activation : isActivity (r .activation) ≡ true
+  pub target : isActivity (r .target) ≡ true
+  pub window : validWindow (r .window) ≡ true
+  pub condition : validCondition false (r .condition) ≡ true
+  pub correlation : validCondition true (r .correlation) ≡ true
+  pub fits : fitsTemplate r ≡ true
+
+pub rule-parts : (r : Rule) → validRule r ≡ true → ValidRule r
+unfolding validRule validHead
+rule-parts r valid =
+    let p : (validHead r ≡ true) × (validCondition false (r .condition) ≡ true) × (validCondition true (r .correlation) ≡ true) × (fitsTemplate r ≡ true) = and₄ valid in
+    let h : (isTemplate (r .code) ≡ true) × (isActivity (r .activation) ≡ true) × (isActivity (r .target) ≡ true) × (validWindow (r .window) ≡ true) = and₄ (p .0) in
+    record { template = h .0; activation = h .1; target = h .2; window = h .3; condition = p .1; correlation = p .2; fits = p .3 }
+
 -- the tests of a valid condition name readings of an event
 pub readings-named : (a : Event) (correlation : Bool) (c : Comparison) → validComparison correlation c ≡ true → isReading ((testOf a c) .reading) ≡ true
 unfolding validComparison testOf
 readings-named a correlation c h = and-left _ _ h
 
-pub tests-named : (a : Event) (r : Rule) → validRule r ≡ true → all (λ t. isReading (t .reading)) (testsOf a (r .correlation)) ≡ true
+pub valid-comparisons : (correlation : Bool) (c : Condition) → validCondition correlation c ≡ true → all (validComparison correlation) (comparisonsOf c) ≡ true
+unfolding validCondition
+valid-comparisons correlation c v =
+    let p : (leb (c .count) 4 ≡ true) × (all (validComparison correlation) (comparisonsOf c) ≡ true) × (noneTwice (comparisonsOf c) ≡ true) = and₃ v in
+    p .1
+
+pub tests-named : (a : Event) (correlation : Bool) (c : Condition) → validCondition correlation c ≡ true → all (λ t. isReading (t .reading)) (testsOf a c) ≡ true
 unfolding testsOf
-tests-named a r valid =
-    all-map (testOf a) (λ t. isReading (t .reading)) (validComparison true) (comparisonsOf (r .correlation)) (readings-named a true) (condition-parts .1)
-  where
-    rule-parts : (validHead r ≡ true) × (validCondition false (r .condition) ≡ true) × (validCondition true (r .correlation) ≡ true)
-    rule-parts = unfold validRule in and₃ valid
-
-    condition-parts : (leb (r .correlation .count) 4 ≡ true) × (all (validComparison true) (comparisonsOf (r .correlation)) ≡ true) × (noneTwice (comparisonsOf (r .correlation)) ≡ true)
-    condition-parts = unfold validCondition in and₃ (rule-parts .2)
-
-pub valid-target : (r : Rule) → validRule r ≡ true → isActivity (r .target) ≡ true
-valid-target r valid = head-parts .2
-  where
-    rule-parts : (validHead r ≡ true) × (validCondition false (r .condition) ≡ true) × (validCondition true (r .correlation) ≡ true)
-    rule-parts = unfold validRule in and₃ valid
-
-    head-parts : (isTemplate (r .code) ≡ true) × (isActivity (r .activation) ≡ true) × (isActivity (r .target) ≡ true) × (validWindow (r .window) ≡ true)
-    head-parts = unfold validHead in and₄ (rule-parts .0)
+tests-named a correlation c v =
+    all-map (testOf a) (λ t. isReading (t .reading)) (validComparison correlation) (comparisonsOf c) (readings-named a correlation) (valid-comparisons correlation c v)
 
 module _ (r : Rule) (es : List Event) (h i : ℕ) (valid : validRule r ≡ true) (come : canCome r es h i ≡ true) where
   come-parts : (inReach (reachOf r) (activationAt r es) i (suc (length es)) ≡ true) × (hasRoom (r .window) ((eventAt es i) .time) h ≡ true) × (satisfiable (testsOf (eventAt es i) (r .correlation)) ≡ true)
@@ -145,7 +153,7 @@ module _ (r : Rule) (es : List Event) (h i : ℕ) (valid : validRule r ≡ true)
       let readings : readingsInRange (coming r es h i) ≡ true =
       unfold coming in bringing-in-range (testsOf (eventAt es i) (r .correlation)) (come-parts .2) (soonest (r .window) ((eventAt es i) .time) h) (r .target) in
       let time : leb ((coming r es h i) .time) latest ≡ true = rw (coming-time r es h i) (room-parts .0) in
-      let activity : isActivity ((coming r es h i) .activity) ≡ true = rw (coming-activity r es h i) (valid-target r valid) in
+      let activity : isActivity ((coming r es h i) .activity) ≡ true = rw (coming-activity r es h i) (rule-parts r valid .target) in
       both₃ time activity readings
 
   pub coming-continues : continuation h (coming r es h i ∷ []) ≡ true
@@ -157,7 +165,7 @@ module _ (r : Rule) (es : List Event) (h i : ℕ) (valid : validRule r ≡ true)
   coming-met : met (r .correlation) (eventAt es i) (coming r es h i) ≡ true
   unfolding met coming
   coming-met =
-      complete (testsOf (eventAt es i) (r .correlation)) (come-parts .2) (soonest (r .window) ((eventAt es i) .time) h) (r .target) (tests-named (eventAt es i) r valid)
+      complete (testsOf (eventAt es i) (r .correlation)) (come-parts .2) (soonest (r .window) ((eventAt es i) .time) h) (r .target) (tests-named (eventAt es i) true (r .correlation) (rule-parts r valid .correlation))
 
   coming-suits : suits r (eventAt es i) (coming r es h i) ≡ true
   unfolding suits correlates
@@ -167,8 +175,8 @@ module _ (r : Rule) (es : List Event) (h i : ℕ) (valid : validRule r ≡ true)
       both (both (eq-eqb _ _ (coming-activity r es h i)) coming-met) (rw apart (room-parts .1))
 
   pub coming-eligible : 1 ≤ i → i ≤ length es → eligible r (es ++ coming r es h i ∷ []) i (suc (length es)) ≡ true
-  unfolding eligible
   coming-eligible low high =
       let s : suits r (eventAt (es ++ coming r es h i ∷ []) i) (eventAt (es ++ coming r es h i ∷ []) (suc (length es))) ≡ true =
       rw (event-next es (coming r es h i), event-same es (coming r es h i ∷ []) i low high) coming-suits in
-      both s (in-reach-same r es (coming r es h i ∷ []) i (suc (length es)) high (omega arith) ∙ come-parts .0)
+      eligible-event r (es ++ coming r es h i ∷ []) i low (suc (length es))
+      ∙ both s (in-reach-same r es (coming r es h i ∷ []) i (suc (length es)) high (omega arith) ∙ come-parts .0)

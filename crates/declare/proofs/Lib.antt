@@ -2,12 +2,14 @@
 pub mod Booleans
 pub mod Positions
 pub mod Nearest
+pub mod Zero
 pub mod Integers
 pub mod Casts
 pub mod Satisfiability
 pub mod Extension
 pub mod Arrival
 pub mod Targets
+pub mod Occurrences
 pub mod Exactness
 pub mod Words
 pub mod EdgeCycles

@@ -8,7 +8,7 @@ use mathlib.Core.Bool.{Bool, true, false, cond, _&&_, true≢false, false≢true
 use mathlib.Core.List.{List, [], _∷_, _++_, append-nil, append-assoc}
 use Prim.Native.Nat.{ℕ, zero, suc, _≤_, _<_}
 use native.Mathlib.Omega.{arith}
-use borrow.Author.Tests.{eqb-true, lt-ltb, ltb-true}
+use borrow.Author.Tests.{eqb-true, eqb-false, lt-ltb, ltb-true}
 use lib.Dec.{eqb, leb, ltb}
 use lib.ListN.{length, length-append}
 use Rattle.declare.specs.Types.{Event, Rule, Polarity, Positive, Negative, Standing, Idle, Open, Fulfilled, Violated}
@@ -17,7 +17,7 @@ use Rattle.declare.specs.Events.{wellFormed, nonFallingFrom, nonFalling,
 use Rattle.declare.specs.Rules.{validRule}
 use Rattle.declare.specs.Suits.{activationAt}
 use Rattle.declare.specs.Templates.{polarityOf}
-use Rattle.declare.specs.Verdicts.{eligible, target, decided, verdict}
+use Rattle.declare.specs.Verdicts.{eligible, target, decided, decision, verdict}
 use Rattle.declare.specs.Continuations.{horizon, continuation}
 use Rattle.declare.specs.Reachability.{canCome, undecided, standing}
 use Rattle.declare.specs.Standings.{isOpen}
@@ -28,28 +28,35 @@ use Rattle.declare.proofs.Booleans.{and-left, and-right, and₂, both, 
 use Rattle.declare.proofs.Lists.{all-parts}
 use Rattle.declare.proofs.Extension.{activation-same, non-falling-parts, later-start}
 use Rattle.declare.proofs.Arrival.{continuation-parts, comes, coming, coming-continues, coming-eligible}
-use Rattle.declare.proofs.Exactness.{target-kept}
+use Rattle.declare.proofs.Zero.{closing-zero, closing-event, undecided-event, decision-event}
+use Rattle.declare.proofs.Occurrences.{zero-decided}
+use Rattle.declare.proofs.Exactness.{decision-shut, target-kept, decision-kept}
 
 -- ---- closing
 
-closed-decided : (r : Rule) (es : List Event) (i : ℕ) (p : Polarity) (j : ℕ) → closed r es i (decided p j) ≡ decided p j
-unfolding closed decided
-closed-decided r es i Positive zero = refl
-closed-decided r es i Positive (suc j) = refl
-closed-decided r es i Negative zero = refl
-closed-decided r es i Negative (suc j) = refl
+pub closed-decided : (r : Rule) (es : List Event) (i : ℕ) (s : Standing) → isOpen s ≡ false → closed r es i s ≡ s
+unfolding closed
+closed-decided r es i Idle h = refl
+closed-decided r es i Open h = absurd (true≢false h)
+closed-decided r es i (Fulfilled j) h = refl
+closed-decided r es i (Violated j) h = refl
+
+-- an undecided activation at an event has no eligible one
+closing-decides : (r : Rule) (es : List Event) (h i : ℕ) → undecided r es h i ≡ true → closing r es i ≡ decision r es i
+closing-decides r es h zero o = closing-zero r es
+closing-decides r es h (suc i) o =
+    let none : target r es (suc i) ≡ 0 = eqb-true (target r es (suc i)) 0 (and-left _ (canCome r es h (suc i)) (sym (undecided-event r es (suc i) (omega arith) h) ∙ o)) in
+    closing-event r es (suc i) (omega arith) ∙ ap (decided (polarityOf r)) (sym none) ∙ sym (decision-event r es (suc i) (omega arith))
 
 -- closing gives the verdict of the finished cycle, whatever the rule, the events and the horizon
 pub closed-is-verdict : (r : Rule) (es : List Event) (h i : ℕ) → closed r es i (standing r es h i) ≡ verdict r es i
-unfolding standing verdict undecided
-closed-is-verdict r es h i =
-    go (activationAt r es i) (eqb (target r es i) 0 && canCome r es h i)
-    (λ o. eqb-true (target r es i) 0 (and-left (eqb (target r es i) 0) (canCome r es h i) o))
+unfolding standing verdict
+closed-is-verdict r es h i = go (activationAt r es i) (undecided r es h i) refl
   where
-    go : (a o : Bool) → (o ≡ true → target r es i ≡ 0) → closed r es i (cond a (cond o Open (decided (polarityOf r) (target r es i))) Idle) ≡ cond a (decided (polarityOf r) (target r es i)) Idle
-    go false o f = unfold closed in refl
-    go true true f = unfold closed closing in ap (decided (polarityOf r)) (sym (f refl))
-    go true false f = closed-decided r es i (polarityOf r) (target r es i)
+    go : (a o : Bool) → undecided r es h i ≡ o → closed r es i (cond a (cond o Open (decision r es i)) Idle) ≡ cond a (decision r es i) Idle
+    go false o q = closed-decided r es i Idle refl
+    go true true q = unfold closed in closing-decides r es h i q
+    go true false q = closed-decided r es i (decision r es i) (decision-shut r es i)
 
 -- ---- more events
 
@@ -71,9 +78,9 @@ longer-continuation h later added further l c d =
     let b = continuation-parts later further d in
     both (non-falling-parts h added further ∙ both (a .0) (later-start (lastFrom h added) later further l (b .0))) (all-append wellFormed added further (a .1) (b .1))
 
-module _ (r : Rule) (es added : List Event) (h later i : ℕ) (valid : validRule r ≡ true) (falls : nonFalling es ≡ true) (past : lastTime es ≤ h) (on : lastFrom h added ≤ later) (low : 1 ≤ i) (high : i ≤ length es) (more : continuation h added ≡ true) where
-  could-come : canCome r (es ++ added) later i ≡ true → canCome r es h i ≡ true
-  could-come c =
+module _ (r : Rule) (es added : List Event) (h later i : ℕ) (valid : validRule r ≡ true) (falls : nonFalling es ≡ true) (past : lastTime es ≤ h) (on : lastFrom h added ≤ later) (high : i ≤ length es) (more : continuation h added ≡ true) where
+  could-come : 1 ≤ i → canCome r (es ++ added) later i ≡ true → canCome r es h i ≡ true
+  could-come low c =
       let next : List Event = coming r (es ++ added) later i ∷ [] in
       let m : i ≤ length (es ++ added) = omega (arith, length-append es added) in
       let k : continuation h (added ++ next) ≡ true =
@@ -82,26 +89,35 @@ module _ (r : Rule) (es added : List Event) (h later i : ℕ) (valid : validRule
       rw append-assoc at (coming-eligible r (es ++ added) later i valid c low m) in
       comes r es (added ++ next) h i (suc (length (es ++ added))) falls past low high (omega (arith, length-append es added)) (simp length-append (omega arith)) k e
 
-  still-decided : target r (es ++ added) i ≡ target r es i → undecided r es h i ≡ false → undecided r (es ++ added) later i ≡ false
-  unfolding undecided
-  still-decided t q = rw t (fails (eqb (target r es i) 0 && canCome r (es ++ added) later i) each q)
+  still-decided-event : 1 ≤ i → undecided r es h i ≡ false → undecided r (es ++ added) later i ≡ false
+  still-decided-event low q =
+      undecided-event r (es ++ added) i low later
+      ∙ rw (target-kept r valid es h falls past added more i low high q) (fails (eqb (target r es i) 0 && canCome r (es ++ added) later i) each (sym (undecided-event r es i low h) ∙ q))
     where
       each : (eqb (target r es i) 0 && canCome r (es ++ added) later i) ≡ true → (eqb (target r es i) 0 && canCome r es h i) ≡ true
       each k =
           let p : (eqb (target r es i) 0 ≡ true) × (canCome r (es ++ added) later i ≡ true) = and₂ k in
-          both (p .0) (could-come (p .1))
+          both (p .0) (could-come low (p .1))
+
+  still-decided : undecided r es h i ≡ false → undecided r (es ++ added) later i ≡ false
+  still-decided q = go (eqb i 0) refl
+    where
+      go : (z : Bool) → eqb i 0 ≡ z → undecided r (es ++ added) later i ≡ false
+      go true e =
+          let n : i ≡ 0 = eqb-true i 0 e in
+          rw n (zero-decided r valid es h falls past added more later (λ l. longer-continuation h later added l on more) (rw n at q))
+      go false e = still-decided-event (omega (arith, eqb-false i 0 e)) q
 
   -- what is not open stays as it is
   pub standing-kept : isOpen (standing r es h i) ≡ false → standing r (es ++ added) later i ≡ standing r es h i
   unfolding standing
   standing-kept o = go (activationAt r es i) refl (undecided r es h i) refl o
     where
-      go : (a : Bool) → activationAt r es i ≡ a → (t : Bool) → undecided r es h i ≡ t → isOpen (cond a (cond t Open (decided (polarityOf r) (target r es i))) Idle) ≡ false → standing r (es ++ added) later i ≡ cond a (cond t Open (decided (polarityOf r) (target r es i))) Idle
-      go false e t q o = rw (activation-same r es added i low high, e)
+      go : (a : Bool) → activationAt r es i ≡ a → (t : Bool) → undecided r es h i ≡ t → isOpen (cond a (cond t Open (decision r es i)) Idle) ≡ false → standing r (es ++ added) later i ≡ cond a (cond t Open (decision r es i)) Idle
+      go false e t q o = rw (activation-same r es added i high, e)
       go true e true q o = absurd (true≢false o)
       go true e false q o =
-          let t : target r (es ++ added) i ≡ target r es i = target-kept r es i low high h falls past added more q in
-          rw (activation-same r es added i low high, e, still-decided t q, t)
+          rw (activation-same r es added i high, e, still-decided q, decision-kept r valid es h falls past added more i high q)
 
   -- carried over or judged anew, it is what the events say
   pub carried-standing : carried (standing r es h i) (standing r (es ++ added) later i) ≡ standing r (es ++ added) later i

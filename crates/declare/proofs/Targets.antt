@@ -97,7 +97,7 @@ target-same q r es i f = nearest-same (eligible q es i) (eligible r es i) i (len
 
 -- ---- one event more, or many
 
-module _ (r : Rule) (es : List Event) (i : ℕ) (low : 1 ≤ i) (high : i ≤ length es) where
+module _ (r : Rule) (es : List Event) (i : ℕ) (high : i ≤ length es) where
   longer : (added : List Event) → length es ≤ length (es ++ added)
   longer added = omega (arith, length-append es added)
 
@@ -105,7 +105,7 @@ module _ (r : Rule) (es : List Event) (i : ℕ) (low : 1 ≤ i) (high : i ≤ le
   target-taken : (added : List Event) → nearest (eligible r (es ++ added) i) i (length es) ≡ target r es i
   unfolding target
   target-taken added =
-      nearest-same (eligible r (es ++ added) i) (eligible r es i) i (length es) (λ k a b. eligible-same r es added i k low high a b)
+      nearest-same (eligible r (es ++ added) i) (eligible r es i) i (length es) (λ k a b. eligible-same r es added i k high a b)
 
   -- a target stays when events are appended
   pub target-stays : (added : List Event) (j : ℕ) → target r es i ≡ suc j → target r (es ++ added) i ≡ suc j
@@ -113,11 +113,11 @@ module _ (r : Rule) (es : List Event) (i : ℕ) (low : 1 ≤ i) (high : i ≤ le
   target-stays added j e =
       nearest-stays (eligible r (es ++ added) i) i (length es) (length (es ++ added)) j high (longer added) (target-taken added ∙ e)
 
-  -- none is there, and none comes
-  pub target-still-none : (added : List Event) → target r es i ≡ 0 → ((k : ℕ) → length es < k → k ≤ length (es ++ added) → eligible r (es ++ added) i k ≡ false) → target r (es ++ added) i ≡ 0
+  -- nor does it change where none comes
+  pub target-cut : (added : List Event) → ((k : ℕ) → length es < k → k ≤ length (es ++ added) → eligible r (es ++ added) i k ≡ false) → target r (es ++ added) i ≡ target r es i
   unfolding target
-  target-still-none added none f =
-      nearest-cut (eligible r (es ++ added) i) i (length es) (length (es ++ added)) (longer added) f ∙ target-taken added ∙ none
+  target-cut added f =
+      nearest-cut (eligible r (es ++ added) i) i (length es) (length (es ++ added)) (longer added) f ∙ target-taken added
 
   pub target-next : (e : Event) → target r es i ≡ 0 → eligible r (es ++ e ∷ []) i (suc (length es)) ≡ true → target r (es ++ e ∷ []) i ≡ suc (length es)
   unfolding target

@@ -1,7 +1,7 @@
 -- The definitions compute what document 01's sentences say.
 use mathlib.Core.Path.{_≡_, refl, sym, subst, _∙_, ap}
-use mathlib.Core.Logic.{_↔_}
-use mathlib.Core.Bool.{Bool, true, false, not, cond, _&&_, true≢false, false≢true}
+use mathlib.Core.Logic.{_↔_, _⊎_, ⊎-elim, inl, inr}
+use mathlib.Core.Bool.{Bool, true, false, not, cond, _&&_, _||_, true≢false, false≢true}
 use mathlib.Core.List.{List, [], _∷_, _++_}
 use Prim.Native.Nat.{ℕ, zero, suc, _+_, _-_, _≤_, _<_}
 use native.Mathlib.Omega.{arith}
@@ -13,19 +13,22 @@ use lib.ListN.{length, getD}
 use Rattle.declare.specs.Types.{Event, Test, End, Never, At, Reach, Anywhere, AtOrAfter, AlternateAfter, Next, AtOrBefore, AlternateBefore, Previous, Polarity, Positive, Negative, Rule, Idle, Open}
 use Rattle.declare.specs.Lists.{all, noneBetween}
 use Rattle.declare.specs.Conditions.{met}
-use Rattle.declare.specs.Events.{wellFormed, nonFallingFrom, nonFalling, lastFrom, lastTime, noEvent, eventAt}
+use Rattle.declare.specs.Events.{wellFormed, nonFallingFrom, nonFalling, lastFrom, lastTime, noEvent, eventAt, firstTime}
+use Rattle.declare.specs.Overall.{isOverall, overallOf, countsTarget, formula}
 use Rattle.declare.specs.Rules.{isReading}
-use Rattle.declare.specs.Suits.{activationAt, beforeEnd, within, between, correlates, suits}
+use Rattle.declare.specs.Suits.{occurs, activationAt, beforeEnd, within, between, correlates, suits}
 use Rattle.declare.specs.Templates.{templates, templateOf, inReach, reachOf, polarityOf}
-use Rattle.declare.specs.Verdicts.{eligible, target, decided, verdict}
+use Rattle.declare.specs.Verdicts.{occursAt, fitsAt, eligible, target, decided, seen, formulaOf, fulfilledIf, decision, verdict}
 use Rattle.declare.specs.Continuations.{horizon, continuation}
 use Rattle.declare.specs.Reachability.{satisfiable, canCome, undecided, standing}
 use Rattle.declare.specs.Standings.{isFulfilled, isViolated}
-use Rattle.declare.specs.Words.{NeverFall, Before, Suits, NoActivationBetween, Eligible, Twelve, SomeEligible, NoneEligible, MayName, targetIn, unnamed, Unmoved, Judged, Satisfiable, Words}
+use Rattle.declare.specs.Words.{NeverFall, Before, Suits, NoActivationBetween, Eligible, Twelve, SomeEligible, NoneEligible, MayName, targetIn, unnamed, Unmoved, Judged, Occurs, SomeOccurs, Four, Satisfiable, Words}
 use Rattle.declare.proofs.Booleans.{and-left, and-right, and₂, both}
 use Rattle.declare.proofs.Extension.{non-falling-parts}
 use Rattle.declare.proofs.Satisfiability.{sound, complete, bringing, bringing-in-range}
 use Rattle.declare.proofs.Targets.{named, only-named}
+use Rattle.declare.proofs.Zero.{activation-zero, eligible-zero, eligible-event, decision-zero, decision-event, undecided-event, active-event}
+use Rattle.declare.proofs.Occurrences.{occurs-parts, seen-some, seen-none, seen-at, or-false}
 use Rattle.declare.proofs.Exactness.{verdict-is}
 
 -- ---- times
@@ -132,9 +135,8 @@ alternate p i j = (
 
 -- what the reach of a code asks of positions i and j
 module _ (r : Rule) (es : List Event) (i j : ℕ) where
-  eligible-as : (code : ℕ) (R : Reach) (P : Type 0) → (templateOf code) .reach ≡ R → ((inReach R (activationAt r es) i j ≡ true) ↔ P) → Eligible code r es i j P
-  unfolding eligible
-  eligible-as code R P q asks c = (to, from)
+  eligible-as : (low : 1 ≤ i) (code : ℕ) (R : Reach) (P : Type 0) → (templateOf code) .reach ≡ R → ((inReach R (activationAt r es) i j ≡ true) ↔ P) → Eligible code r es i j P
+  eligible-as low code R P q asks c = rw (eligible-event r es i low j) (to, from)
     where
       reach-is : inReach (reachOf r) (activationAt r es) i j ≡ inReach R (activationAt r es) i j
       reach-is = ap (λ (k : ℕ). inReach ((templateOf k) .reach) (activationAt r es) i j) c ∙ ap (λ (S : Reach). inReach S (activationAt r es) i j) q
@@ -147,22 +149,22 @@ module _ (r : Rule) (es : List Event) (i j : ℕ) where
       from : Suits r (eventAt es i) (eventAt es j) × P → (suits r (eventAt es i) (eventAt es j) && inReach (reachOf r) (activationAt r es) i j) ≡ true
       from p = both (suited r (eventAt es i) (eventAt es j) .1 (p .0)) (reach-is ∙ asks .1 (p .1))
 
-  pub twelve : Twelve r es i j
+  pub twelve : 1 ≤ i → Twelve r es i j
   unfolding inReach templateOf templates
-  twelve =
+  twelve low =
       record {
-        responded-existence = eligible-as 1 Anywhere (Unit {0}) refl ((λ _. tt), (λ _. refl));
-        response = eligible-as 2 AtOrAfter (i ≤ j) refl (leb-true i j, le-leb i j);
-        alternate-response = eligible-as 3 AlternateAfter ((i < j) × NoActivationBetween r es i j) refl (alternate (activationAt r es) i j);
-        chain-response = eligible-as 4 Next (j ≡ i + 1) refl (eqb-true j (i + 1), eq-eqb j (i + 1));
-        precedence = eligible-as 5 AtOrBefore (j ≤ i) refl (leb-true j i, le-leb j i);
-        alternate-precedence = eligible-as 6 AlternateBefore ((j < i) × NoActivationBetween r es j i) refl (alternate (activationAt r es) j i);
-        chain-precedence = eligible-as 7 Previous (j + 1 ≡ i) refl (eqb-true (j + 1) i, eq-eqb (j + 1) i);
-        not-responded-existence = eligible-as 8 Anywhere (Unit {0}) refl ((λ _. tt), (λ _. refl));
-        not-response = eligible-as 9 AtOrAfter (i ≤ j) refl (leb-true i j, le-leb i j);
-        not-precedence = eligible-as 10 AtOrBefore (j ≤ i) refl (leb-true j i, le-leb j i);
-        not-chain-response = eligible-as 11 Next (j ≡ i + 1) refl (eqb-true j (i + 1), eq-eqb j (i + 1));
-        not-chain-precedence = eligible-as 12 Previous (j + 1 ≡ i) refl (eqb-true (j + 1) i, eq-eqb (j + 1) i);
+        responded-existence = eligible-as low 1 Anywhere (Unit {0}) refl ((λ _. tt), (λ _. refl));
+        response = eligible-as low 2 AtOrAfter (i ≤ j) refl (leb-true i j, le-leb i j);
+        alternate-response = eligible-as low 3 AlternateAfter ((i < j) × NoActivationBetween r es i j) refl (alternate (activationAt r es) i j);
+        chain-response = eligible-as low 4 Next (j ≡ i + 1) refl (eqb-true j (i + 1), eq-eqb j (i + 1));
+        precedence = eligible-as low 5 AtOrBefore (j ≤ i) refl (leb-true j i, le-leb j i);
+        alternate-precedence = eligible-as low 6 AlternateBefore ((j < i) × NoActivationBetween r es j i) refl (alternate (activationAt r es) j i);
+        chain-precedence = eligible-as low 7 Previous (j + 1 ≡ i) refl (eqb-true (j + 1) i, eq-eqb (j + 1) i);
+        not-responded-existence = eligible-as low 8 Anywhere (Unit {0}) refl ((λ _. tt), (λ _. refl));
+        not-response = eligible-as low 9 AtOrAfter (i ≤ j) refl (leb-true i j, le-leb i j);
+        not-precedence = eligible-as low 10 AtOrBefore (j ≤ i) refl (leb-true j i, le-leb j i);
+        not-chain-response = eligible-as low 11 Next (j ≡ i + 1) refl (eqb-true j (i + 1), eq-eqb j (i + 1));
+        not-chain-precedence = eligible-as low 12 Previous (j + 1 ≡ i) refl (eqb-true (j + 1) i, eq-eqb (j + 1) i);
       }
 
 -- ---- the verdict
@@ -190,12 +192,24 @@ negative code a b = subst (λ (k : ℕ). (templateOf k) .polarity ≡ Negative) 
     from-8 (suc (suc (suc (suc zero)))) a = unfold templateOf templates in refl
     from-8 (suc (suc (suc (suc (suc k))))) a = absurd (omega arith)
 
-target-in : (p : Polarity) (j : ℕ) → targetIn (decided p j) ≡ j
-unfolding targetIn decided
-target-in Positive zero = refl
-target-in Positive (suc j) = refl
-target-in Negative zero = refl
-target-in Negative (suc j) = refl
+-- a decision names its target
+target-in : (r : Rule) (es : List Event) (i : ℕ) → targetIn (decision r es i) ≡ target r es i
+unfolding decision targetIn
+target-in r es i = go (eqb i 0)
+  where
+    by-formula : (t : Bool) (j : ℕ) → targetIn (fulfilledIf t j) ≡ j
+    by-formula true j = refl
+    by-formula false j = refl
+
+    by-target : (p : Polarity) (j : ℕ) → targetIn (decided p j) ≡ j
+    by-target Positive zero = unfold decided in refl
+    by-target Positive (suc j) = unfold decided in refl
+    by-target Negative zero = unfold decided in refl
+    by-target Negative (suc j) = unfold decided in refl
+
+    go : (z : Bool) → targetIn (cond z (fulfilledIf (formulaOf r es) (target r es i)) (decided (polarityOf r) (target r es i))) ≡ target r es i
+    go true = by-formula (formulaOf r es) (target r es i)
+    go false = by-target (polarityOf r) (target r es i)
 
 -- a target other than 0 is eligible, and at 0 none is
 module _ (r : Rule) (es : List Event) (i : ℕ) where
@@ -219,15 +233,16 @@ module _ (r : Rule) (es : List Event) (i : ℕ) where
   unfolding decided
   judged act =
       record {
-        fulfilled = λ a b. rw (with-polarity (positive (r .code) a b)) (tells-some (λ j. isFulfilled (decided Positive j)) refl (λ j. refl) (target r es i) (named r es i .may));
-        violated = λ a b. rw (with-polarity (positive (r .code) a b)) (tells-none (λ j. isViolated (decided Positive j)) refl (λ j. refl) (target r es i) (named r es i .may));
-        negative-violated = λ a b. rw (with-polarity (negative (r .code) a b)) (tells-some (λ j. isViolated (decided Negative j)) refl (λ j. refl) (target r es i) (named r es i .may));
-        negative-fulfilled = λ a b. rw (with-polarity (negative (r .code) a b)) (tells-none (λ j. isFulfilled (decided Negative j)) refl (λ j. refl) (target r es i) (named r es i .may));
-        names = rw (verdict-is r es i act, target-in (polarityOf r) (target r es i)) (named r es i);
+        fulfilled = λ a b. rw (with-polarity (omega arith) (positive (r .code) a b)) (tells-some (λ j. isFulfilled (decided Positive j)) refl (λ j. refl) (target r es i) (named r es i .may));
+        violated = λ a b. rw (with-polarity (omega arith) (positive (r .code) a b)) (tells-none (λ j. isViolated (decided Positive j)) refl (λ j. refl) (target r es i) (named r es i .may));
+        negative-violated = λ a b. rw (with-polarity b (negative (r .code) a b)) (tells-some (λ j. isViolated (decided Negative j)) refl (λ j. refl) (target r es i) (named r es i .may));
+        negative-fulfilled = λ a b. rw (with-polarity b (negative (r .code) a b)) (tells-none (λ j. isFulfilled (decided Negative j)) refl (λ j. refl) (target r es i) (named r es i .may));
+        names = rw (verdict-is r es i act, target-in r es i) (named r es i);
       }
     where
-      with-polarity : {p : Polarity} → polarityOf r ≡ p → verdict r es i ≡ decided p (target r es i)
-      with-polarity q = verdict-is r es i act ∙ ap (λ (p : Polarity). decided p (target r es i)) q
+      with-polarity : r .code ≤ 12 → {p : Polarity} → polarityOf r ≡ p → verdict r es i ≡ decided p (target r es i)
+      with-polarity few q =
+          verdict-is r es i act ∙ decision-event r es i (active-event r es i act few) ∙ ap (λ (p : Polarity). decided p (target r es i)) q
 
   -- ---- whichever is named
 
@@ -243,9 +258,13 @@ module _ (r : Rule) (es : List Event) (i : ℕ) where
       alike Positive = refl
       alike Negative = refl
 
-  unmoved : (h j : ℕ) → MayName r es i j → Unmoved r es h i j
-  unfolding verdict standing undecided
-  unmoved h j m = record { finished = finished (activationAt r es i); running = running (activationAt r es i) }
+  unmoved : (h j : ℕ) → 1 ≤ i → MayName r es i j → Unmoved r es h i j
+  unfolding verdict standing
+  unmoved h j low m =
+      record {
+        finished = rw (decision-event r es i low) (finished (activationAt r es i));
+        running = rw (decision-event r es i low, undecided-event r es i low h) (running (activationAt r es i));
+      }
     where
       found : eqb (target r es i) 0 ≡ eqb j 0
       found = same-found (target r es i) j (named r es i .may) m .0
@@ -264,6 +283,159 @@ module _ (r : Rule) (es : List Event) (i : ℕ) where
       running : (a : Bool) → unnamed (cond a (cond (eqb (target r es i) 0 && canCome r es h i) Open (decided (polarityOf r) (target r es i))) Idle) ≡ unnamed (cond a (cond (eqb j 0 && canCome r es h i) Open (decided (polarityOf r) j)) Idle)
       running true = rw found (open-too (eqb j 0 && canCome r es h i))
       running false = refl
+
+-- ---- the codes 13 to 16
+
+-- one of them, if it holds of each
+pub of-overall : (P : ℕ → Type 0) → P 13 → P 14 → P 15 → P 16 → (code : ℕ) → isOverall code ≡ true → P code
+unfolding isOverall
+of-overall P a b c d code h =
+    let p : (leb 13 code ≡ true) × (leb code 16 ≡ true) = and₂ h in
+    let low : 13 ≤ code = leb-true 13 code (p .0) in
+    let high : code ≤ 16 = leb-true code 16 (p .1) in
+    subst P (omega arith) (go (code - 13) (omega arith))
+  where
+    go : (n : ℕ) → n < 4 → P (13 + n)
+    go zero l = a
+    go (suc zero) l = b
+    go (suc (suc zero)) l = c
+    go (suc (suc (suc zero))) l = d
+    go (suc (suc (suc (suc n)))) l = absurd (omega arith)
+
+counts-none : (code : ℕ) → isOverall code ≡ true → code ≤ 14 → countsTarget (overallOf code) ≡ false
+unfolding overallOf
+counts-none code h =
+    of-overall (λ k. k ≤ 14 → countsTarget (overallOf k) ≡ false) (λ _. refl) (λ _. refl) (λ l. absurd (omega arith)) (λ l. absurd (omega arith)) code h
+
+counts-both : (code : ℕ) → isOverall code ≡ true → 15 ≤ code → countsTarget (overallOf code) ≡ true
+unfolding overallOf
+counts-both code h =
+    of-overall (λ k. 15 ≤ k → countsTarget (overallOf k) ≡ true) (λ l. absurd (omega arith)) (λ l. absurd (omega arith)) (λ _. refl) (λ _. refl) code h
+
+-- ---- rules about the cycle as such
+
+first-time : (es : List Event) → 1 ≤ length es → firstTime 0 es ≡ eventAt es 1 .time
+unfolding firstTime eventAt
+first-time [] l = absurd (omega arith)
+first-time (e ∷ es) l = refl
+
+module _ (r : Rule) (es : List Event) (k : ℕ) where
+  occurs-reads : (j : ℕ) → 1 ≤ j → j ≤ length es → (occursAt r es k j ≡ true) ↔ Occurs r es k j
+  occurs-reads j a b = (to, from)
+    where
+      d : ℕ
+      d = between (eventAt es 1 .time) (eventAt es j .time)
+
+      start : firstTime 0 es ≡ eventAt es 1 .time
+      start = first-time es (omega arith)
+
+      to : occursAt r es k j ≡ true → Occurs r es k j
+      to h =
+          let p = occurs-parts r es k j h in
+          let w : (leb (r .window .from) d ≡ true) × (beforeEnd d (r .window .until) ≡ true) = unfold within in and₂ (rw start at (p .2)) in
+          record {
+            low = a;
+            high = b;
+            has-activity = eqb-true (eventAt es j .activity) k (p .0);
+            meets-condition = p .1;
+            at-least-a = leb-true (r .window .from) d (w .0);
+            below-b = before-reads d (r .window .until) .0 (w .1);
+          }
+
+      from : Occurs r es k j → occursAt r es k j ≡ true
+      from o =
+          unfold occursAt occurs within in
+          rw start
+          (both (both (eq-eqb (eventAt es j .activity) k (o .has-activity)) (o .meets-condition))
+          (both (le-leb (r .window .from) d (o .at-least-a)) (before-reads d (r .window .until) .1 (o .below-b))))
+
+  seen-reads : (seen r es k ≡ true) ↔ SomeOccurs r es k
+  seen-reads = (
+    (λ h. let s = seen-at r es k h in (s .0, occurs-reads (s .0) (s .1) (s .2) .0 (s .3))),
+    (λ s. seen-some r es k (s .0) (s .1 .low) (s .1 .high) (occurs-reads (s .0) (s .1 .low) (s .1 .high) .1 (s .1))),
+  )
+
+-- a test, and what it says
+Says : Bool → Type 0 → Type 0
+Says t P = ((t ≡ true) ↔ P) × ((not t ≡ true) ↔ (P → ⊥))
+
+module _ {P : Type 0} where
+  says : (t : Bool) → (t ≡ true) ↔ P → Says t P
+  unfolding Says
+  says true f = (f, ((λ h. absurd (false≢true h)), (λ n. absurd (n (f .0 refl)))))
+  says false f = (f, ((λ _ p. false≢true (f .1 p)), (λ _. refl)))
+
+not-says : {P : Type 0} (t : Bool) → (t ≡ true) ↔ P → (not t ≡ true) ↔ (P → ⊥)
+unfolding Says
+not-says t f = says t f .1
+
+module _ {A B : Type 0} where
+  or-says : (a b : Bool) → (a ≡ true) ↔ A → (b ≡ true) ↔ B → ((a || b) ≡ true) ↔ (A ⊎ B)
+  or-says true b f g = ((λ _. inl (f .0 refl)), (λ _. refl))
+  or-says false b f g = ((λ h. inr (g .0 h)), (λ s. ⊎-elim (λ x. absurd (false≢true (f .1 x))) (g .1) s))
+
+  and-says : (a b : Bool) → (a ≡ true) ↔ A → (b ≡ true) ↔ B → ((a && b) ≡ true) ↔ (A × B)
+  and-says a b f g = ((λ h. let p = and₂ h in (f .0 (p .0), g .0 (p .1))), (λ s. both (f .1 (s .0)) (g .1 (s .1))))
+
+module _ (r : Rule) (es : List Event) (overall : isOverall (r .code) ≡ true) where
+  abbrev A : Type 0
+  A = SomeOccurs r es (r .activation)
+
+  abbrev B : Type 0
+  B = SomeOccurs r es (r .target)
+
+  a : Bool
+  a = seen r es (r .activation)
+
+  b : Bool
+  b = seen r es (r .target)
+
+  a-says : (a ≡ true) ↔ A
+  unfolding a
+  a-says = seen-reads r es (r .activation)
+
+  b-says : (b ≡ true) ↔ B
+  unfolding b
+  b-says = seen-reads r es (r .target)
+
+  by-formula : (t : Bool) {P : Type 0} → formulaOf r es ≡ t → (t ≡ true) ↔ P → ((isFulfilled (verdict r es 0) ≡ true) ↔ P) × ((isViolated (verdict r es 0) ≡ true) ↔ (P → ⊥))
+  by-formula t e f = rw (verdict-is r es 0 (activation-zero r es ∙ overall), decision-zero r es, e) (go t f)
+    where
+      go : (t : Bool) {P : Type 0} → (t ≡ true) ↔ P → ((isFulfilled (fulfilledIf t (target r es 0)) ≡ true) ↔ P) × ((isViolated (fulfilledIf t (target r es 0)) ≡ true) ↔ (P → ⊥))
+      go true f = unfold Says in says true f
+      go false f = unfold Says in says false f
+
+  formula-at : (code : ℕ) → r .code ≡ code → formulaOf r es ≡ formula (overallOf code) a b
+  unfolding formulaOf a b
+  formula-at code c = ap (λ (k : ℕ). formula (overallOf k) (seen r es (r .activation)) (seen r es (r .target))) c
+
+  fits-at : (j : ℕ) → eligible r es 0 j ≡ (occursAt r es (r .activation) j || (countsTarget (overallOf (r .code)) && occursAt r es (r .target) j))
+  unfolding fitsAt
+  fits-at j = eligible-zero r es j
+
+  of-one : r .code ≤ 14 → (j : ℕ) → 1 ≤ j → j ≤ length es → (eligible r es 0 j ≡ true) ↔ Occurs r es (r .activation) j
+  of-one few j x y = rw (fits-at j, counts-none (r .code) overall few, or-none (occursAt r es (r .activation) j)) (occurs-reads r es (r .activation) j x y)
+    where
+      or-none : (t : Bool) → (t || (false && occursAt r es (r .target) j)) ≡ t
+      or-none true = refl
+      or-none false = refl
+
+  of-either : 15 ≤ r .code → (j : ℕ) → 1 ≤ j → j ≤ length es → (eligible r es 0 j ≡ true) ↔ (Occurs r es (r .activation) j ⊎ Occurs r es (r .target) j)
+  of-either some j x y =
+      rw (fits-at j, counts-both (r .code) overall some)
+      (or-says (occursAt r es (r .activation) j) (occursAt r es (r .target) j) (occurs-reads r es (r .activation) j x y) (occurs-reads r es (r .target) j x y))
+
+  pub four : Four r es A B
+  unfolding overallOf
+  four =
+      record {
+        existence = λ c. by-formula a (formula-at 13 c) a-says;
+        absence = λ c. by-formula (not a) (formula-at 14 c) (not-says a a-says);
+        choice = λ c. by-formula (a || b) (formula-at 15 c) (or-says a b a-says b-says);
+        exclusive-choice = λ c. by-formula ((a || b) && not (a && b)) (formula-at 16 c) (and-says (a || b) (not (a && b)) (or-says a b a-says b-says) (not-says (a && b) (and-says a b a-says b-says)));
+        of-one = of-one;
+        of-either = of-either;
+      }
 
 -- ---- continuations
 
@@ -288,6 +460,7 @@ words =
       twelve = twelve;
       named = λ r es i j. (only-named r es i j, λ e. rw e (named r es i));
       unmoved = λ r es h i j. unmoved r es i h j;
+      four = four;
       judged = judged;
       continued = continued;
       satisfied = satisfied;

@@ -5,6 +5,7 @@ pub mod Limits
 pub mod Comparisons
 pub mod Conditions
 pub mod Events
+pub mod Overall
 pub mod Rules
 pub mod Slots
 pub mod Suits
@@ -21,6 +22,7 @@ pub mod Words
 pub mod EdgeCycles
 pub mod TemplateCases
 pub mod TargetCases
+pub mod OverallCases
 pub mod ConditionCases
 pub mod LimitCases
 pub mod Checked

@@ -3,7 +3,7 @@ use mathlib.Core.Bool.{true, false}
 use mathlib.Core.List.{List, [], _∷_, map}
 use Prim.Native.Nat.{ℕ}
 use lib.IntN.{pos, negsuc}
-use Rattle.declare.specs.Types.{Blank, Value, Event, Equal, Less, Constant, Activation, Condition, End, Never, At, Rule, Table, FieldCount, NumberForm, OutOfRange, ComparisonForm, ReadingTwice, EmptyWindow, TimeFalls, TooMany, WrongPhase, NotFound, InvalidRecord, NoLineEnd, NoFile, TallyOverflow, BufferTooShort}
+use Rattle.declare.specs.Types.{Blank, Value, Event, Equal, Less, Constant, Activation, Condition, End, Never, At, Rule, Table, FieldCount, NumberForm, OutOfRange, ComparisonForm, ReadingTwice, EmptyWindow, TimeFalls, TooMany, WrongPhase, NotFound, InvalidRecord, NoLineEnd, NoFile, TallyOverflow, BufferTooShort, TemplateMismatch}
 use Rattle.declare.specs.Events.{wellFormed, nonFalling}
 use Rattle.declare.specs.Rules.{validRule, validTable}
 use Rattle.declare.specs.Continuations.{continuation}
@@ -20,9 +20,12 @@ abbrev pub limited : ℕ → ℕ → ℕ → ℕ → End → Rule
 limited code activation target a b =
     record { code = code; activation = activation; target = target; window = window a b; condition = always; correlation = always }
 
+abbrev pub overall : ℕ → Condition → Condition → Rule
+overall code condition correlation =
+    record { code = code; activation = 1; target = 2; window = window 0 Never; condition = condition; correlation = correlation }
+
 abbrev pub conditioned : Condition → Condition → Rule
-conditioned condition correlation =
-    record { code = 2; activation = 1; target = 2; window = window 0 Never; condition = condition; correlation = correlation }
+conditioned condition correlation = overall 2 condition correlation
 
 -- two comparisons, of the readings j and k
 abbrev pub pair : ℕ → ℕ → Condition
@@ -64,7 +67,9 @@ limits =
     ∷ validRule (limited 0 1 1 0 Never) gives false
     ∷ validRule (limited 1 1 1 0 Never) gives true
     ∷ validRule (limited 12 64 64 0 Never) gives true
-    ∷ validRule (limited 13 1 1 0 Never) gives false
+    ∷ validRule (limited 13 1 2 0 Never) gives true
+    ∷ validRule (limited 16 1 2 0 Never) gives true
+    ∷ validRule (limited 17 1 2 0 Never) gives false
     ∷ validRule (limited 1 0 1 0 Never) gives false
     ∷ validRule (limited 1 65 1 0 Never) gives false
     ∷ validRule (limited 1 1 0 0 Never) gives false
@@ -97,6 +102,17 @@ limits =
     ∷ validRule (conditioned always (counted 4)) gives true
     ∷ validRule (conditioned always (counted 5)) gives false
     ∷ validRule (conditioned (counted 5) always) gives false
+    -- under 15 and 16 the activities differ, under 13 to 16 there is no correlation
+    ∷ validRule (limited 12 1 1 0 Never) gives true
+    ∷ validRule (limited 13 1 1 0 Never) gives true
+    ∷ validRule (limited 14 1 1 0 Never) gives true
+    ∷ validRule (limited 15 1 1 0 Never) gives false
+    ∷ validRule (limited 16 1 1 0 Never) gives false
+    ∷ validRule (overall 13 (when Equal (Constant (pos 0))) always) gives true
+    ∷ validRule (overall 13 always (when Equal (Constant (pos 0)))) gives false
+    ∷ validRule (overall 14 always (when Equal (Constant (pos 0)))) gives false
+    ∷ validRule (overall 15 always (when Equal (Constant (pos 0)))) gives false
+    ∷ validRule (overall 16 always (when Equal (Constant (pos 0)))) gives false
     -- slots past a count are not read
     ∷ validTable (table 0 (limited 0 0 0 0 Never ∷ [])) gives true
     ∷ validTable (table 1 (limited 1 1 1 0 Never ∷ limited 0 0 0 0 Never ∷ [])) gives true
@@ -120,7 +136,7 @@ withoutLine = map numberOf (WrongPhase ∷ NotFound ∷ InvalidRecord ∷ TallyO
 
 unfoldable pub withLine : List ℕ
 withLine =
-    map numberOf (FieldCount ∷ NumberForm ∷ OutOfRange ∷ ComparisonForm ∷ ReadingTwice ∷ EmptyWindow ∷ TimeFalls ∷ TooMany ∷ NoLineEnd ∷ NoFile ∷ [])
+    map numberOf (FieldCount ∷ NumberForm ∷ OutOfRange ∷ ComparisonForm ∷ ReadingTwice ∷ EmptyWindow ∷ TimeFalls ∷ TooMany ∷ NoLineEnd ∷ NoFile ∷ TemplateMismatch ∷ [])
 
 -- ---- takes
 

@@ -12,9 +12,12 @@ readings = 4
 abbrev pub mostComparisons : ℕ
 mostComparisons = 4
 
--- the templates have the codes 1 to 12
+-- the templates have the codes 1 to 16; from 13 on they are about the cycle as such
 abbrev pub lastTemplate : ℕ
-lastTemplate = 12
+lastTemplate = 16
+
+abbrev pub firstOverall : ℕ
+firstOverall = 13
 
 -- of a table, and of a run
 abbrev pub mostRules : ℕ

@@ -24,6 +24,11 @@ abbrev pub orElse : ℕ → ℕ → ℕ
 orElse zero k = k
 orElse (suc j) k = suc j
 
+-- a position was found
+abbrev pub found : ℕ → Bool
+found zero = false
+found (suc j) = true
+
 -- the earliest of the positions 1 to n that passes, or 0
 unfoldable pub firstUpTo : (ℕ → Bool) → ℕ → ℕ
 firstUpTo p zero = 0

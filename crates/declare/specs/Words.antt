@@ -1,7 +1,7 @@
 -- The sentences of document 01, and of document 02 where a card changed one, as statements over
 -- positions, beside the definitions that compute. Each record is proved in proofs/Words.
 use mathlib.Core.Path.{_≡_}
-use mathlib.Core.Logic.{_↔_}
+use mathlib.Core.Logic.{_↔_, _⊎_}
 use mathlib.Core.Bool.{true, false, cond, _&&_}
 use mathlib.Core.List.{List, _++_}
 use Prim.Native.Nat.{ℕ, zero, suc, _+_, _≤_, _<_}
@@ -12,6 +12,7 @@ use Rattle.declare.specs.Lists.{all}
 use Rattle.declare.specs.Comparisons.{passes}
 use Rattle.declare.specs.Conditions.{met}
 use Rattle.declare.specs.Events.{readingsInRange, wellFormed, nonFalling, eventAt}
+use Rattle.declare.specs.Overall.{isOverall}
 use Rattle.declare.specs.Rules.{isReading}
 use Rattle.declare.specs.Suits.{activationAt, between, suits}
 use Rattle.declare.specs.Templates.{polarityOf}
@@ -109,6 +110,37 @@ pub record Judged (r : Rule) (es : List Event) (i : ℕ) : Type 0 where
   pub negative-fulfilled : 8 ≤ r .code → r .code ≤ 12 → (isFulfilled (verdict r es i) ≡ true) ↔ NoneEligible r es i
   pub names : Names r es i (targetIn (verdict r es i))
 
+-- ---- rules about the cycle as such
+
+-- activity k occurs at position j: its event has the activity, meets the activation condition, and
+-- its time is at least a, and below b, after the time of the first event
+pub record Occurs (r : Rule) (es : List Event) (k j : ℕ) : Type 0 where
+  pub low : 1 ≤ j
+  pub high : j ≤ length es
+  pub has-activity : eventAt es j .activity ≡ k
+  pub meets-condition : met (r .condition) (eventAt es j) (eventAt es j) ≡ true
+  pub at-least-a : r .window .from ≤ between (eventAt es 1 .time) (eventAt es j .time)
+  pub below-b : Before (between (eventAt es 1 .time) (eventAt es j .time)) (r .window .until)
+
+abbrev pub SomeOccurs : Rule → List Event → ℕ → Type 0
+SomeOccurs r es k = (j : ℕ) × Occurs r es k j
+
+-- fulfilled under a code if and only if P, else violated
+abbrev pub FulfilledIf : ℕ → Rule → List Event → Type 0 → Type 0
+FulfilledIf code r es P =
+    r .code ≡ code
+    → ((isFulfilled (verdict r es 0) ≡ true) ↔ P) × ((isViolated (verdict r es 0) ≡ true) ↔ (P → ⊥))
+
+-- a finished cycle: existence, absence, choice, exclusive choice, of the activities A and B
+pub record Four (r : Rule) (es : List Event) (A B : Type 0) : Type 0 where
+  pub existence : FulfilledIf 13 r es A
+  pub absence : FulfilledIf 14 r es (A → ⊥)
+  pub choice : FulfilledIf 15 r es (A ⊎ B)
+  pub exclusive-choice : FulfilledIf 16 r es ((A ⊎ B) × (A × B → ⊥))
+  -- which positions can be named: "under 15 and 16, for either activity"
+  pub of-one : r .code ≤ 14 → (j : ℕ) → 1 ≤ j → j ≤ length es → (eligible r es 0 j ≡ true) ↔ Occurs r es (r .activation) j
+  pub of-either : 15 ≤ r .code → (j : ℕ) → 1 ≤ j → j ≤ length es → (eligible r es 0 j ≡ true) ↔ (Occurs r es (r .activation) j ⊎ Occurs r es (r .target) j)
+
 -- the readings of some event pass all tests
 abbrev pub Satisfiable : List Test → Type 0
 Satisfiable ts = (e : Event) × (readingsInRange e ≡ true) × (all (passes e) ts ≡ true)
@@ -116,12 +148,13 @@ Satisfiable ts = (e : Event) × (readingsInRange e ≡ true) × (all (passes e) 
 pub record Words : Type 0 where
   pub times : (es : List Event) → (nonFalling es ≡ true) ↔ NeverFall es
   pub suited : (r : Rule) (a e : Event) → (suits r a e ≡ true) ↔ Suits r a e
-  pub twelve : (r : Rule) (es : List Event) (i j : ℕ) → Twelve r es i j
+  pub twelve : (r : Rule) (es : List Event) (i j : ℕ) → 1 ≤ i → Twelve r es i j
   -- the target is what is named, and nothing else is
   pub named : (r : Rule) (es : List Event) (i j : ℕ) → Names r es i j ↔ (j ≡ target r es i)
   -- whichever eligible event were named, the earliest say, the standings would be the same
-  pub unmoved : (r : Rule) (es : List Event) (h i j : ℕ) → MayName r es i j → Unmoved r es h i j
+  pub unmoved : (r : Rule) (es : List Event) (h i j : ℕ) → 1 ≤ i → MayName r es i j → Unmoved r es h i j
   pub judged : (r : Rule) (es : List Event) (i : ℕ) → activationAt r es i ≡ true → Judged r es i
+  pub four : (r : Rule) (es : List Event) → isOverall (r .code) ≡ true → Four r es (SomeOccurs r es (r .activation)) (SomeOccurs r es (r .target))
   -- of a cycle whose times do not fall, the continuations are what makes it a longer such cycle, of
   -- well-formed events
   pub continued : (es added : List Event) → nonFalling es ≡ true → continuation (horizon es) added ≡ (nonFalling (es ++ added) && all wellFormed added)
