@@ -12,8 +12,9 @@ use Rattle.declare.specs.Lists.{all}
 use Rattle.declare.specs.Comparisons.{testOf, passes}
 use Rattle.declare.specs.Conditions.{comparisonsOf, testsOf, met}
 use Rattle.declare.specs.Suits.{within, between, correlates, suits}
-use Rattle.declare.specs.Reachability.{satisfiable, hasRoom}
-use Rattle.condition.specs.Bound.{testList, testsFor, boundOf, suitsBound, canSuitBound}
+use Rattle.declare.specs.Events.{firstTime, emptySlot}
+use Rattle.declare.specs.Reachability.{satisfiable, hasRoom, canOccur}
+use Rattle.condition.specs.Bound.{testList, testsFor, boundOf, cycleBound, suitsBound, canSuitBound}
 
 take-map {ℓ} : {A B : Type ℓ} (f : A → B) (n : ℕ) (xs : List A) → take n (map f xs) ≡ map f (take n xs)
 take-map f zero xs = refl
@@ -45,3 +46,8 @@ bound-suits r a e =
 pub bound-can-suit : (r : Rule) (a : Event) (h : ℕ) → canSuitBound (boundOf r a) h ≡ (hasRoom (r .window) (a .time) h && satisfiable (testsOf a (r .correlation)))
 unfolding canSuitBound boundOf
 bound-can-suit r a h = rw (tests-bound a (r .correlation))
+
+-- the same of a rule about the cycle
+pub bound-can-occur : (r : Rule) (es : List Event) (h : ℕ) → canSuitBound (cycleBound r (firstTime h es)) h ≡ canOccur r es h
+unfolding canSuitBound cycleBound canOccur
+bound-can-occur r es h = rw (tests-bound emptySlot (r .condition))

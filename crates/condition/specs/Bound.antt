@@ -10,6 +10,7 @@ use Rattle.declare.specs.declared.Test.{Test}
 use Rattle.declare.specs.declared.Rule.{Rule}
 use Rattle.declare.specs.Lists.{all}
 use Rattle.declare.specs.Comparisons.{testOf, passes}
+use Rattle.declare.specs.Events.{emptySlot}
 use Rattle.declare.specs.Suits.{within, between}
 use Rattle.declare.specs.Reachability.{satisfiable, hasRoom}
 use Rattle.condition.specs.declared.bound.Tests.{Tests}
@@ -27,6 +28,11 @@ testsFor a c =
 -- the rule for the activation a
 unfoldable pub boundOf : Rule → Event → Bound
 boundOf r a = record { target = r .target; time = a .time; window = r .window; tests = testsFor a (r .correlation) }
+
+-- a rule about the cycle, for a first event at the time `first`: what it asks of an event, by
+-- constants only
+unfoldable pub cycleBound : Rule → ℕ → Bound
+cycleBound r first = record { target = r .target; time = first; window = r .window; tests = testsFor emptySlot (r .condition) }
 
 -- e suits the activation that the rule is bound to
 unfoldable pub suitsBound : Bound → Event → Bool

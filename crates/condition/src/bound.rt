@@ -1,13 +1,14 @@
 // A rule bound to one activation: its references made numbers once, for every event that is then
 // tried.
 ghost use mathlib.Core.Path.{_≡_};
-ghost use Rattle.condition.specs.Bound.{testsFor, boundOf};
+ghost use Rattle.condition.specs.Bound.{testsFor, boundOf, cycleBound};
 use crate::comparison::test_of;
 use declare::Condition;
 use declare::Event;
 use declare::Rule;
 use declare::Test;
 use declare::Window;
+use declare::slots::empty_slot;
 
 // The first `count` of four tests.
 pub struct Tests {
@@ -52,6 +53,20 @@ pub fn bound_of(rule: Rule, a: Event) -> Bound
     Bound {
         target: rule.target,
         time: a.time,
+        window: window,
+        tests: tests,
+    }
+}
+
+// A rule about the cycle, for a first event at the time `first`.
+pub fn cycle_bound(rule: Rule, first: u32) -> Bound
+    ensures { λ r. ⌜ r ≡ cycleBound rule first ⌝ }
+{
+    let window = rule.window;
+    let tests = tests_for(empty_slot(), rule.condition);
+    Bound {
+        target: rule.target,
+        time: first,
         window: window,
         tests: tests,
     }

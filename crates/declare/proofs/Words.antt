@@ -23,8 +23,8 @@ use Rattle.declare.specs.Continuations.{horizon, continuation}
 use Rattle.declare.specs.Reachability.{satisfiable, canCome, undecided, standing}
 use Rattle.declare.specs.Standings.{isFulfilled, isViolated}
 use Rattle.declare.specs.Words.{NeverFall, Before, Suits, NoActivationBetween, Eligible, Twelve, SomeEligible, NoneEligible, MayName, targetIn, unnamed, Unmoved, Judged, Occurs, SomeOccurs, Four, Satisfiable, Words}
-use Rattle.declare.proofs.Booleans.{and-left, and-right, and₂, both}
-use Rattle.declare.proofs.Extension.{non-falling-parts}
+use Rattle.declare.proofs.Booleans.{and-left, and-right, and₂, both, not-says, and-says, or-says}
+use Rattle.declare.proofs.Extension.{first-time, non-falling-parts}
 use Rattle.declare.proofs.Satisfiability.{sound, complete, bringing, bringing-in-range}
 use Rattle.declare.proofs.Targets.{named, only-named}
 use Rattle.declare.proofs.Zero.{activation-zero, eligible-zero, eligible-event, decision-zero, decision-event, undecided-event, active-event}
@@ -314,11 +314,6 @@ counts-both code h =
 
 -- ---- rules about the cycle as such
 
-first-time : (es : List Event) → 1 ≤ length es → firstTime 0 es ≡ eventAt es 1 .time
-unfolding firstTime eventAt
-first-time [] l = absurd (omega arith)
-first-time (e ∷ es) l = refl
-
 module _ (r : Rule) (es : List Event) (k : ℕ) where
   occurs-reads : (j : ℕ) → 1 ≤ j → j ≤ length es → (occursAt r es k j ≡ true) ↔ Occurs r es k j
   occurs-reads j a b = (to, from)
@@ -355,28 +350,6 @@ module _ (r : Rule) (es : List Event) (k : ℕ) where
     (λ s. seen-some r es k (s .0) (s .1 .low) (s .1 .high) (occurs-reads (s .0) (s .1 .low) (s .1 .high) .1 (s .1))),
   )
 
--- a test, and what it says
-Says : Bool → Type 0 → Type 0
-Says t P = ((t ≡ true) ↔ P) × ((not t ≡ true) ↔ (P → ⊥))
-
-module _ {P : Type 0} where
-  says : (t : Bool) → (t ≡ true) ↔ P → Says t P
-  unfolding Says
-  says true f = (f, ((λ h. absurd (false≢true h)), (λ n. absurd (n (f .0 refl)))))
-  says false f = (f, ((λ _ p. false≢true (f .1 p)), (λ _. refl)))
-
-not-says : {P : Type 0} (t : Bool) → (t ≡ true) ↔ P → (not t ≡ true) ↔ (P → ⊥)
-unfolding Says
-not-says t f = says t f .1
-
-module _ {A B : Type 0} where
-  or-says : (a b : Bool) → (a ≡ true) ↔ A → (b ≡ true) ↔ B → ((a || b) ≡ true) ↔ (A ⊎ B)
-  or-says true b f g = ((λ _. inl (f .0 refl)), (λ _. refl))
-  or-says false b f g = ((λ h. inr (g .0 h)), (λ s. ⊎-elim (λ x. absurd (false≢true (f .1 x))) (g .1) s))
-
-  and-says : (a b : Bool) → (a ≡ true) ↔ A → (b ≡ true) ↔ B → ((a && b) ≡ true) ↔ (A × B)
-  and-says a b f g = ((λ h. let p = and₂ h in (f .0 (p .0), g .0 (p .1))), (λ s. both (f .1 (s .0)) (g .1 (s .1))))
-
 module _ (r : Rule) (es : List Event) (overall : isOverall (r .code) ≡ true) where
   abbrev A : Type 0
   A = SomeOccurs r es (r .activation)
@@ -402,8 +375,8 @@ module _ (r : Rule) (es : List Event) (overall : isOverall (r .code) ≡ true) w
   by-formula t e f = rw (verdict-is r es 0 (activation-zero r es ∙ overall), decision-zero r es, e) (go t f)
     where
       go : (t : Bool) {P : Type 0} → (t ≡ true) ↔ P → ((isFulfilled (fulfilledIf t (target r es 0)) ≡ true) ↔ P) × ((isViolated (fulfilledIf t (target r es 0)) ≡ true) ↔ (P → ⊥))
-      go true f = unfold Says in says true f
-      go false f = unfold Says in says false f
+      go true f = (f, not-says true f)
+      go false f = (f, not-says false f)
 
   formula-at : (code : ℕ) → r .code ≡ code → formulaOf r es ≡ formula (overallOf code) a b
   unfolding formulaOf a b

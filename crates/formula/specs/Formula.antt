@@ -12,7 +12,7 @@ use Rattle.declare.specs.declared.Window.{Window}
 use Rattle.declare.specs.declared.Rule.{Rule}
 use Rattle.declare.specs.Conditions.{met}
 use Rattle.declare.specs.Events.{eventAt}
-use Rattle.declare.specs.Suits.{isActivation, within, between, correlates}
+use Rattle.declare.specs.Suits.{occurs, isActivation, within, between, correlates}
 
 -- [0, ∞), of an operator without an interval
 abbrev pub always : Window
@@ -24,6 +24,8 @@ pub data Formula : Type 0 where
   -- A ∧ φ_a(x) to the letter: the event has the activation activity, and φ_a is asked of x, the
   -- activation judged
   BoundActivation : Formula
+  -- A ∧ ∃x. φ_a(x) of an activity: the event has it, and φ_a is asked of the event's own readings
+  Occurs : ℕ → Formula
   -- B ∧ φ_c: the event has the target activity, and meets the correlation against the activation
   Target : Formula
   -- the event lies so far in time from the activation judged: φ_τ
@@ -47,6 +49,7 @@ timeAt es i = eventAt es i .time
 unfoldable pub Holds : Rule → List Event → Event → Formula → ℕ → Type 0
 Holds r es a Activation i = isActivation r (eventAt es i) ≡ true
 Holds r es a BoundActivation i = (eqb (eventAt es i .activity) (r .activation) && met (r .condition) a a) ≡ true
+Holds r es a (Occurs k) i = occurs r k (eventAt es i) ≡ true
 Holds r es a Target i = correlates r a (eventAt es i) ≡ true
 Holds r es a (Within I) i = within I (between (a .time) (timeAt es i)) ≡ true
 Holds r es a (Not φ) i = Holds r es a φ i → ⊥

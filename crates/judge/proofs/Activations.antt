@@ -1,8 +1,8 @@
 -- What the flags say of the activations.
 use mathlib.Core.Path.{_≡_, refl, sym, _∙_, ap, ap₂}
-use mathlib.Core.Bool.{Bool, true, false, cond}
+use mathlib.Core.Bool.{Bool, true, false, not, cond, _&&_}
 use mathlib.Core.List.{List}
-use Prim.Native.Nat.{ℕ, _+_, _-_, _/_, _%_, _≤_, _<_}
+use Prim.Native.Nat.{ℕ, zero-le, _+_, _-_, _/_, _%_, _≤_, _<_}
 use native.Mathlib.Omega.{arith}
 use borrow.Author.Tests.{ltb-true}
 use lib.Dec.{ltb, eqb}
@@ -13,7 +13,8 @@ use Rattle.declare.specs.Limits.{mostEvents}
 use Rattle.declare.specs.Events.{noEvent}
 use Rattle.declare.specs.Rules.{noRule}
 use Rattle.declare.specs.Conditions.{met}
-use Rattle.declare.specs.Suits.{isActivation}
+use Rattle.declare.specs.Overall.{isOverall, placesOf}
+use Rattle.declare.specs.Suits.{occurs, isActivation}
 use Rattle.declare.proofs.Booleans.{and-right}
 use Rattle.standings.specs.Places.{inUse}
 use lib.IntN.{ℤ}
@@ -41,41 +42,82 @@ module _ (rules : List Rule) (count : ℕ) (es : List Event) (n j : ℕ) (x : Bo
   unfolding flagged
   flagged-unused u = rw u
 
--- an event that has the rule's activity
-of-activity : (r : Rule) (e : Event) → eqb (e .activity) (r .activation) ≡ true → met (r .condition) e e ≡ isActivation r e
-unfolding isActivation
-of-activity r e h = rw h
+-- an event that has the activity of a rule that is not about the cycle
+of-activity : (r : Rule) (e : Event) → isOverall (r .code) ≡ false → eqb (e .activity) (r .activation) ≡ true → met (r .condition) e e ≡ isActivation r e
+unfolding isActivation occurs
+of-activity r e o h = rw (o, h)
+
+other-activity : (r : Rule) (e : Event) → (isOverall (r .code) ≡ false → eqb (e .activity) (r .activation) ≡ false) → isActivation r e ≡ false
+unfolding isActivation occurs
+other-activity r e f = go (isOverall (r .code)) refl
+  where
+    go : (o : Bool) → isOverall (r .code) ≡ o → (not o && (eqb (e .activity) (r .activation) && met (r .condition) e e)) ≡ false
+    go true q = refl
+    go false q = rw (f q)
+
+-- the places of a rule: all of the events, or none
+pub places-few : (code n : ℕ) → placesOf code n ≤ n
+unfolding placesOf
+places-few code n = go (isOverall code)
+  where
+    go : (o : Bool) → cond o 0 n ≤ n
+    go true = zero-le
+    go false = omega arith
+
+places-all : (code n : ℕ) → isOverall code ≡ false → placesOf code n ≡ n
+unfolding placesOf
+places-all code n o = rw o
+
+places-some : (code n q : ℕ) → q < placesOf code n → isOverall code ≡ false
+unfolding placesOf
+places-some code n q l = go (isOverall code) refl l
+  where
+    go : (o : Bool) → isOverall code ≡ o → q < cond o 0 n → isOverall code ≡ false
+    go true e l = absurd (omega arith)
+    go false e l = e
 
 module _ (rules : List Rule) (count : ℕ) (es : List Event) (n : ℕ) {activities : List ℕ} (shown : ShowsActivities activities es n) where
-  not-flagged : (i : ℕ) (used : Bool) → (used ≡ true → eqb (getD es (i % mostEvents) noEvent .activity) (getD rules (i / mostEvents) noRule .activation) ≡ false) → cond used (isActivation (getD rules (i / mostEvents) noRule) (getD es (i % mostEvents) noEvent)) false ≡ false
-  unfolding isActivation
-  not-flagged i true h = rw (h refl)
+  not-flagged : (i : ℕ) (used : Bool) → (used ≡ true → isActivation (getD rules (i / mostEvents) noRule) (getD es (i % mostEvents) noEvent) ≡ false) → cond used (isActivation (getD rules (i / mostEvents) noRule) (getD es (i % mostEvents) noEvent)) false ≡ false
+  not-flagged i true h = h refl
   not-flagged i false h = refl
 
-  -- no flag at the places of a row that are passed over, up to the next of the activity or to the
-  -- end of the row
-  pub passed-over : (j q i : ℕ) → NextPlace activities (getD rules (j / mostEvents) noRule .activation) (j % mostEvents) n q → j ≤ i → i < j + (mostEvents - j % mostEvents) → (i % mostEvents < n → i % mostEvents < q) → flagged rules count es n i false ≡ false
-  unfolding flagged inUse
-  passed-over j q i next a b c = not-flagged i (inUse count n i) other
-    where
-      row : i / mostEvents ≡ j / mostEvents
-      row = omega arith
+  module _ (j : ℕ) where
+    rule : Rule
+    rule = getD rules (j / mostEvents) noRule
 
-      other : inUse count n i ≡ true → eqb (getD es (i % mostEvents) noEvent .activity) (getD rules (i / mostEvents) noRule .activation) ≡ false
-      other u =
-          let low : i % mostEvents < n = ltb-true (i % mostEvents) n (and-right (ltb (i / mostEvents) count) (ltb (i % mostEvents) n) u) in
-          rw (row, ← shown .activity (i % mostEvents) low) (next .passed (i % mostEvents) (omega arith) (c low))
+    -- q is the next place of the rule's activity
+    abbrev pub NextOf : ℕ → Type 0
+    NextOf q = NextPlace activities (getD rules (j / mostEvents) noRule .activation) (j % mostEvents) (placesOf (getD rules (j / mostEvents) noRule .code) n) q
 
-  -- and at the next place of the activity the flag that the condition gives
-  pub flagged-next : (j q : ℕ) (x : Bool) {v : Bool} → NextPlace activities (getD rules (j / mostEvents) noRule .activation) (j % mostEvents) n q → q < n → n ≤ mostEvents → j / mostEvents < count → v ≡ met (getD rules (j / mostEvents) noRule .condition) (getD es q noEvent) (getD es q noEvent) → v ≡ flagged rules count es n (j + (q - j % mostEvents)) x
-  flagged-next j q x next low high counted e =
-      let past : j % mostEvents ≤ q = next .found low .0 in
-      let row : (j + (q - j % mostEvents)) / mostEvents ≡ j / mostEvents = omega arith in
-      let place : (j + (q - j % mostEvents)) % mostEvents ≡ q = omega arith in
-      let own : eqb (getD es q noEvent .activity) (getD rules (j / mostEvents) noRule .activation) ≡ true = rw (← shown .activity q low) (next .found low .1) in
-      let used : inUse count n (j + (q - j % mostEvents)) ≡ true = place-in-use count n (j + (q - j % mostEvents)) (omega arith) (omega arith) in
-      e ∙ of-activity (getD rules (j / mostEvents) noRule) (getD es q noEvent) own
-      ∙ sym (flagged-used rules count es n (j + (q - j % mostEvents)) x used ∙ ap₂ (λ (r k : ℕ). isActivation (getD rules r noRule) (getD es k noEvent)) row place)
+    -- no flag at the places of a row that are passed over, up to the next of the activity or to the
+    -- end of the row
+    pub passed-over : (q i : ℕ) → NextOf q → j ≤ i → i < j + (mostEvents - j % mostEvents) → (i % mostEvents < placesOf (getD rules (j / mostEvents) noRule .code) n → i % mostEvents < q) → flagged rules count es n i false ≡ false
+    unfolding flagged inUse rule
+    passed-over q i next a b c = not-flagged i (inUse count n i) none
+      where
+        row : i / mostEvents ≡ j / mostEvents
+        row = omega arith
+
+        none : inUse count n i ≡ true → isActivation (getD rules (i / mostEvents) noRule) (getD es (i % mostEvents) noEvent) ≡ false
+        none u =
+            let low : i % mostEvents < n = ltb-true (i % mostEvents) n (and-right (ltb (i / mostEvents) count) (ltb (i % mostEvents) n) u) in
+            rw row
+            (other-activity rule (getD es (i % mostEvents) noEvent)
+            (λ o. let whole = places-all (rule .code) n o in
+            rw (← shown .activity (i % mostEvents) low) (next .passed (i % mostEvents) (omega arith) (c (omega (arith, whole, low))))))
+
+    -- and at the next place of the activity the flag that the condition gives
+    pub flagged-next : (q : ℕ) (x : Bool) {v : Bool} → NextOf q → q < placesOf (getD rules (j / mostEvents) noRule .code) n → n ≤ mostEvents → j / mostEvents < count → v ≡ met (getD rules (j / mostEvents) noRule .condition) (getD es q noEvent) (getD es q noEvent) → v ≡ flagged rules count es n (j + (q - j % mostEvents)) x
+    unfolding rule
+    flagged-next q x next few high counted e =
+        let low : q < n = omega (arith, few, places-few (rule .code) n) in
+        let past : j % mostEvents ≤ q = next .found few .0 in
+        let line : (j + (q - j % mostEvents)) / mostEvents ≡ j / mostEvents = omega arith in
+        let place : (j + (q - j % mostEvents)) % mostEvents ≡ q = omega arith in
+        let own : eqb (getD es q noEvent .activity) (rule .activation) ≡ true = rw (← shown .activity q low) (next .found few .1) in
+        let used : inUse count n (j + (q - j % mostEvents)) ≡ true = place-in-use count n (j + (q - j % mostEvents)) (omega arith) (omega arith) in
+        e ∙ of-activity rule (getD es q noEvent) (places-some (rule .code) n q few) own
+        ∙ sym (flagged-used rules count es n (j + (q - j % mostEvents)) x used ∙ ap₂ (λ (r k : ℕ). isActivation (getD rules r noRule) (getD es k noEvent)) line place)
 
 -- the flag of a place tells whether its event is an activation
 pub flag-tells : {times activities : List ℕ} {rs : List ℤ} {row : List Bool} {r : Rule} {p : ℕ} {act : Event} → Ready times activities rs row r p act → isActivation r act ≡ getD row p false

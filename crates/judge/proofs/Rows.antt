@@ -20,6 +20,7 @@ use Rattle.declare.specs.Events.{noEvent, eventAt}
 use Rattle.declare.specs.Rules.{noRule, ruleAt}
 use Rattle.declare.specs.Suits.{isActivation, activationAt}
 use Rattle.declare.specs.Steps.{carried}
+use Rattle.declare.proofs.Zero.{activation-event}
 use Rattle.declare.proofs.Sweeps.{getD-map-from, length-map-from, map-from-same}
 use Rattle.standings.specs.declared.Cell.{Cell}
 use Rattle.standings.specs.Places.{places, inUse, changedCell, changed}
@@ -81,9 +82,9 @@ module _ {times activities : List ℕ} {rs : List ℤ} {flags : List Bool} {t : 
       column = omega arith
 
   activation-is : (k : ℕ) → 1 ≤ k → k ≤ n → activationAt rule (eventsIn times activities rs n) k ≡ isActivation rule (getD events (k - 1) noEvent)
-  unfolding activationAt eventAt
+  unfolding eventAt
   activation-is k a b =
-      ap (isActivation rule) (events-at times activities rs n (k - 1) (omega arith) ∙ placed .shows .at (k - 1) (omega arith))
+      activation-event rule (eventsIn times activities rs n) k a ∙ ap (isActivation rule) (events-at times activities rs n (k - 1) (omega arith) ∙ placed .shows .at (k - 1) (omega arith))
 
   pub ready-at : Ready times activities rs row rule (j % mostEvents) (getD events (j % mostEvents) noEvent)
   ready-at =

@@ -1,4 +1,4 @@
-// All standings of a run.
+// All standings of a run at its events.
 ghost use mathlib.Core.Path.{_≡_};
 ghost use Prim.Native.Nat.{_+_, _≤_};
 ghost use lib.ListN.{length};
@@ -12,6 +12,7 @@ use crate::columns::columns_of;
 use crate::flags::flags_of;
 use crate::scan::nearest_suiting;
 use crate::span::span_of;
+use crate::target::target_of;
 use crate::template::decide;
 use crate::template::template_of;
 use condition::bound::bound_of;
@@ -27,13 +28,6 @@ use declare::kind::is_idle;
 use declare::numbers::min;
 use standings::Cell;
 use standings::PLACES;
-
-fn target_of(j: usize) -> u16
-    requires { ⌜ j ≤ mostEvents ⌝ }
-    ensures { λ r. ⌜ r ≡ j ⌝ }
-{
-    j as u16
-}
 
 // What becomes of the standing s of the event `act` at place p. A decided one is carried over; of
 // an activation, the nearest event that suits it decides, else whether one may still come. The row

@@ -5,4 +5,6 @@ mod flags; // flags.rt: which events are activations of which rule
 mod check; // check.rt: tests made ready for a scan
 mod scan; // scan.rt: the nearest position that suits, and the neighbouring activations
 mod span; // span.rt: the positions that a template reaches
-pub mod cells; // cells.rt: all standings of a run
+mod target; // target.rt: a position as a target
+pub mod cells; // cells.rt: all standings of a run at its events
+pub mod overall; // overall.rt: those at position 0

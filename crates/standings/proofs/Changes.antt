@@ -1,8 +1,8 @@
 -- A change of all cells, by rule and position: what is in use is changed, what is not stays.
 use mathlib.Core.Path.{_≡_, refl, ap, _∙_}
-use mathlib.Core.Bool.{false, and-false}
+use mathlib.Core.Bool.{Bool, true, false, cond, and-false}
 use mathlib.Core.List.{List}
-use Prim.Native.Nat.{ℕ, _≤_, _<_}
+use Prim.Native.Nat.{ℕ, _+_, _-_, _≤_, _<_}
 use native.Mathlib.Nat.{zero-add}
 use native.Mathlib.Omega.{arith}
 use borrow.Author.Tests.{le-leb, lt-leb}
@@ -13,7 +13,7 @@ use Rattle.declare.specs.declared.Standing.the-variants.{Idle}
 use Rattle.declare.proofs.Lists.{replicated}
 use Rattle.declare.proofs.Sweeps.{getD-map-from, length-map-from}
 use Rattle.standings.specs.declared.Cell.{Cell}
-use Rattle.standings.specs.Places.{places, idleCell, placeOf, standingFrom, standingIn, inUse, changedCell, changed}
+use Rattle.standings.specs.Places.{places, idleCell, placeOf, standingFrom, standingIn, overallIn, overallCell, changedOverall, inUse, changedCell, changed}
 use Rattle.standings.proofs.Places.{in-use, rule-at, position-at}
 
 module _ (f : ℕ → ℕ → Standing → Standing) (rules n : ℕ) (cells : List Cell) where
@@ -56,3 +56,25 @@ idle-standing cells k i e = ap (λ (c : Cell). c .standing) e
 pub idle-everywhere : (n k i : ℕ) → standingIn (replicate n idleCell) k i ≡ Idle
 unfolding standingIn standingFrom
 idle-everywhere n k i = ap (λ (c : Cell). c .standing) (replicated n (placeOf k i) idleCell)
+
+-- ---- position 0
+
+module _ (of : ℕ → Bool) (f : ℕ → ℕ → Standing → Standing) (cells : List Cell) where
+  pub overall-length : length (changedOverall of f cells) ≡ length cells
+  unfolding changedOverall
+  overall-length = length-map-from _ 0 cells
+
+  module _ (k : ℕ) (low : 1 ≤ k) (high : k ≤ length cells) where
+    overall-at : getD (changedOverall of f cells) (k - 1) idleCell ≡ cond (of k) (record { standing = f k 0 (overallIn cells k) }) (getD cells (k - 1) idleCell)
+    unfolding changedOverall overallCell overallIn
+    overall-at =
+        let n : k - 1 + 1 ≡ k = omega arith in
+        getD-map-from _ 0 cells (k - 1) idleCell (omega arith) ∙ rw (zero-add (k - 1), n) refl
+
+    pub overall-changed : of k ≡ true → overallIn (changedOverall of f cells) k ≡ f k 0 (overallIn cells k)
+    unfolding overallIn
+    overall-changed u = ap (λ (c : Cell). c .standing) (overall-at ∙ rw u refl)
+
+    -- of another rule it stays as it is
+    pub overall-kept : of k ≡ false → getD (changedOverall of f cells) (k - 1) idleCell ≡ getD cells (k - 1) idleCell
+    overall-kept u = overall-at ∙ rw u refl

@@ -14,46 +14,52 @@ use Rattle.declare.specs.Lists.{countBelow, bit}
 use Rattle.declare.specs.Standings.{isIdle, isOpen, isFulfilled, isViolated}
 use Rattle.declare.proofs.Sweeps.{count-le}
 use Rattle.standings.specs.declared.Cell.{Cell}
-use Rattle.standings.specs.Places.{idleCell, standingFrom}
+use Rattle.standings.specs.Places.{idleCell, standingFrom, withZero}
 use Rattle.standings.specs.declared.totals.Totals.{Totals}
 use Rattle.declare.proofs.Lists.{count-same}
 use Rattle.standings.specs.Totals.{positionsOf, totalsBy, noTotals, oneMore, withStanding}
 
-pub totals-none : (s : ℕ → Standing) → noTotals ≡ totalsBy s 0
-unfolding totalsBy positionsOf countBelow
-totals-none s = refl
-
+-- one more, in the 16 bits that a total has
 one-more : (n : ℕ) → n < 65535 → oneMore n ≡ n + 1
 one-more n h = omega arith
 
--- one position more, as long as 16 bits hold the counts
-totals-next : (s : ℕ → Standing) (n : ℕ) → n < 65535 → withStanding (totalsBy s n) (s (n + 1)) ≡ totalsBy s (suc n)
+-- position 0
+pub totals-first : (s : ℕ → Standing) → withStanding noTotals (s 0) ≡ totalsBy s 0
 unfolding totalsBy positionsOf countBelow withStanding
-totals-next s n h = go (s (n + 1)) refl
+totals-first s = go (s 0) refl
   where
-    more : (p : Standing → Bool) → oneMore (countBelow (λ k. p (s (k + 1))) n) ≡ countBelow (λ k. p (s (k + 1))) n + 1
-    more p = one-more _ (let l = count-le (λ k. p (s (k + 1))) n in omega arith)
+    go : (x : Standing) → s 0 ≡ x → withStanding noTotals (s 0) ≡ totalsBy s 0
+    go Idle e = rw e refl
+    go Open e = rw e refl
+    go (Fulfilled j) e = rw e refl
+    go (Violated j) e = rw e refl
 
-    go : (x : Standing) → s (n + 1) ≡ x → withStanding (totalsBy s n) (s (n + 1)) ≡ totalsBy s (suc n)
+-- one position more, as long as 16 bits hold the counts
+totals-next : (s : ℕ → Standing) (n : ℕ) → n < 65534 → withStanding (totalsBy s n) (s (suc n)) ≡ totalsBy s (suc n)
+unfolding totalsBy positionsOf countBelow withStanding
+totals-next s n h = go (s (suc n)) refl
+  where
+    more : (p : Standing → Bool) → oneMore (countBelow (λ k. p (s k)) (suc n)) ≡ countBelow (λ k. p (s k)) (suc n) + 1
+    more p = one-more _ (let l = count-le (λ k. p (s k)) (suc n) in omega arith)
+
+    go : (x : Standing) → s (suc n) ≡ x → withStanding (totalsBy s n) (s (suc n)) ≡ totalsBy s (suc n)
     go Idle e = rw e (simp add-zero)
     go Open e = rw (e, more (λ x. not (isIdle x)), more isOpen) (simp add-zero)
     go (Fulfilled j) e = rw (e, more (λ x. not (isIdle x)), more isFulfilled) (simp add-zero)
     go (Violated j) e = rw (e, more (λ x. not (isIdle x)), more isViolated) (simp add-zero)
 
 -- one place more of a row
-pub next-place : (cells : List Cell) (first p : ℕ) → (getD cells (first + p) idleCell) .standing ≡ standingFrom cells first (p + 1)
-unfolding standingFrom
-next-place cells first p = ap (λ (i : ℕ). (getD cells (first + i) idleCell) .standing) back
+pub next-place : (z : Standing) (cells : List Cell) (first p : ℕ) → (getD cells (first + p) idleCell) .standing ≡ withZero z (standingFrom cells first) (suc p)
+unfolding withZero standingFrom
+next-place z cells first p = ap (λ (i : ℕ). (getD cells (first + i) idleCell) .standing) back
   where
-    back : p ≡ p + 1 - 1
+    back : p ≡ suc p - 1
     back = omega arith
 
-pub totals-again : (cells : List Cell) (first p : ℕ) {t u : Totals} {s : Standing} → p < 65535 → t ≡ totalsBy (standingFrom cells first) p → s ≡ (getD cells (first + p) idleCell) .standing → u ≡ withStanding t s → u ≡ totalsBy (standingFrom cells first) (p + 1)
-totals-again cells first p l e h g =
-    g
-    ∙ ap₂ withStanding e (h ∙ next-place cells first p)
-    ∙ totals-next (standingFrom cells first) p l
-    ∙ ap (totalsBy (standingFrom cells first)) (sym (add-one p))
+pub totals-again : (z : Standing) (cells : List Cell) (first p : ℕ) {t u : Totals} {s : Standing} → p < 65534 → t ≡ totalsBy (withZero z (standingFrom cells first)) p → s ≡ (getD cells (first + p) idleCell) .standing → u ≡ withStanding t s → u ≡ totalsBy (withZero z (standingFrom cells first)) (p + 1)
+totals-again z cells first p l e h g =
+    let row : ℕ → Standing = withZero z (standingFrom cells first) in
+    g ∙ ap₂ withStanding e (h ∙ next-place z cells first p) ∙ totals-next row p l ∙ ap (totalsBy row) (sym (add-one p))
 
 pub record Small (t : Totals) (n : ℕ) : Type 0 where
   pub activations : t .activations ≤ n
@@ -62,29 +68,30 @@ pub record Small (t : Totals) (n : ℕ) : Type 0 where
   pub «open» : t .«open» ≤ n
 
 -- no total is above the number of positions
-pub totals-small : (s : ℕ → Standing) (n : ℕ) {t : Totals} → t ≡ totalsBy s n → Small t n
+pub totals-small : (s : ℕ → Standing) (n : ℕ) {t : Totals} → t ≡ totalsBy s n → Small t (suc n)
 unfolding totalsBy positionsOf
 totals-small s n {t} e =
-    rw e (record { activations = count-le _ n; fulfilled = count-le _ n; violated = count-le _ n; «open» = count-le _ n })
+    rw e
+    (record { activations = count-le _ (suc n); fulfilled = count-le _ (suc n); violated = count-le _ (suc n); «open» = count-le _ (suc n) })
 
 -- ---- what the totals count
 
 -- equal standings, equal totals
-pub totals-same : (s u : ℕ → Standing) (n : ℕ) → ((i : ℕ) → 1 ≤ i → i ≤ n → s i ≡ u i) → totalsBy s n ≡ totalsBy u n
+pub totals-same : (s u : ℕ → Standing) (n : ℕ) → ((i : ℕ) → i ≤ n → s i ≡ u i) → totalsBy s n ≡ totalsBy u n
 unfolding totalsBy positionsOf
 totals-same s u n f = rw (each (λ x. not (isIdle x)), each isFulfilled, each isViolated, each isOpen) refl
   where
-    each : (p : Standing → Bool) → countBelow (λ k. p (s (k + 1))) n ≡ countBelow (λ k. p (u (k + 1))) n
-    each p = count-same (λ k. p (s (k + 1))) (λ k. p (u (k + 1))) n (λ k l. ap p (f (k + 1) (omega arith) (omega arith)))
+    each : (p : Standing → Bool) → countBelow (λ k. p (s k)) (suc n) ≡ countBelow (λ k. p (u k)) (suc n)
+    each p = count-same (λ k. p (s k)) (λ k. p (u k)) (suc n) (λ k l. ap p (f k (omega arith)))
 
 -- an idle position counts for nothing
-with-idle : (s : ℕ → Standing) (k : ℕ) → s (k + 1) ≡ Idle → totalsBy s (suc k) ≡ totalsBy s k
+with-idle : (s : ℕ → Standing) (k : ℕ) → s (suc k) ≡ Idle → totalsBy s (suc k) ≡ totalsBy s k
 unfolding totalsBy positionsOf countBelow
 with-idle s k e = rw e (simp add-zero)
 
 pub totals-idle : (s : ℕ → Standing) (n m : ℕ) → n ≤ m → ((i : ℕ) → n < i → i ≤ m → s i ≡ Idle) → totalsBy s m ≡ totalsBy s n
 totals-idle s n m l f =
-    le-ind (λ (k : ℕ). k ≤ m → totalsBy s k ≡ totalsBy s n) (λ _. refl) (λ k a e b. with-idle s k (f (k + 1) (omega arith) (omega arith)) ∙ e (omega arith)) m l (omega arith)
+    le-ind (λ (k : ℕ). k ≤ m → totalsBy s k ≡ totalsBy s n) (λ _. refl) (λ k a e b. with-idle s k (f (suc k) (omega arith) (omega arith)) ∙ e (omega arith)) m l (omega arith)
 
 bit-sum : (s : Standing) → bit (not (isIdle s)) ≡ bit (isFulfilled s) + bit (isViolated s) + bit (isOpen s)
 bit-sum Idle = refl
@@ -95,9 +102,9 @@ bit-sum (Violated j) = refl
 -- every position that is not idle is fulfilled, violated or open
 pub totals-sum : (s : ℕ → Standing) (n : ℕ) → (totalsBy s n) .activations ≡ (totalsBy s n) .fulfilled + (totalsBy s n) .violated + (totalsBy s n) .«open»
 unfolding totalsBy positionsOf countBelow
-totals-sum s zero = refl
-totals-sum s (suc n) = omega (arith, totals-sum s n, bit-sum (s (n + 1)))
+totals-sum s zero = omega (arith, bit-sum (s 0))
+totals-sum s (suc n) = omega (arith, totals-sum s n, bit-sum (s (suc n)))
 
-pub totals-activations : (s : ℕ → Standing) (a : ℕ → Bool) (n : ℕ) → ((i : ℕ) → not (isIdle (s i)) ≡ a i) → (totalsBy s n) .activations ≡ countBelow (λ p. a (p + 1)) n
+pub totals-activations : (s : ℕ → Standing) (a : ℕ → Bool) (n : ℕ) → ((i : ℕ) → not (isIdle (s i)) ≡ a i) → (totalsBy s n) .activations ≡ countBelow a (suc n)
 unfolding totalsBy positionsOf
-totals-activations s a n f = count-same (λ p. not (isIdle (s (p + 1)))) (λ p. a (p + 1)) n (λ p l. f (p + 1))
+totals-activations s a n f = count-same (λ p. not (isIdle (s p))) a (suc n) (λ p l. f p)

@@ -1,12 +1,13 @@
 -- Where a rule's position stands, and which places are in use.
 use mathlib.Core.Path.{_≡_, refl, _∙_, ap}
 use mathlib.Core.Bool.{Bool, true, false, _&&_, and-false}
-use Prim.Native.Nat.{ℕ, suc, _+_, _-_, _*_, _/_, _%_, _≤_, _<_}
+use Prim.Native.Nat.{ℕ, zero, suc, _+_, _-_, _*_, _/_, _%_, _≤_, _<_}
 use native.Mathlib.Omega.{arith}
 use borrow.Author.Tests.{lt-ltb, le-ltb, ltb-true}
 use lib.Dec.{leb, ltb}
 use Rattle.declare.proofs.Booleans.{and₂, both, fails}
-use Rattle.standings.specs.Places.{placeOf, inUse}
+use Rattle.declare.specs.declared.Standing.{Standing}
+use Rattle.standings.specs.Places.{withZero, placeOf, inUse}
 
 module _ (count n j : ℕ) where
   pub place-in-use : j / 256 < count → j % 256 < n → inUse count n j ≡ true
@@ -54,3 +55,10 @@ module _ (k i : ℕ) (k-low : 1 ≤ k) (i-low : 1 ≤ i) (i-high : i ≤ 256) wh
       let a : suc (k - 1) ≡ k = omega arith in
       let b : suc (i - 1) ≡ i = omega arith in
       rw (row, column) (rw (a, b) refl)
+
+-- ---- position 0, and those after it
+
+pub from-one : (z : Standing) (s : ℕ → Standing) (i : ℕ) → 1 ≤ i → withZero z s i ≡ s i
+unfolding withZero
+from-one z s zero low = absurd (omega arith)
+from-one z s (suc i) low = refl

@@ -1,13 +1,13 @@
 -- The cells of a run: sixteen rows, one a rule, of 256 places, one a position.
 use mathlib.Core.Bool.{Bool, cond, _&&_}
 use mathlib.Core.List.{List}
-use Prim.Native.Nat.{ℕ, _+_, _-_, _*_, _/_, _%_}
+use Prim.Native.Nat.{ℕ, zero, suc, _+_, _-_, _*_, _/_, _%_}
 use lib.Dec.{ltb}
 use lib.ListN.{getD, replicate}
 use Rattle.declare.specs.declared.Standing.{Standing}
 use Rattle.declare.specs.declared.Standing.the-variants.{Idle}
 use Rattle.declare.specs.Lists.{mapFrom}
-use Rattle.declare.specs.Limits.{mostEvents}
+use Rattle.declare.specs.Limits.{mostRules, mostEvents}
 use Rattle.standings.specs.declared.Cell.{Cell}
 
 -- 16 rules of 256 positions
@@ -32,6 +32,28 @@ standingFrom cells first position = getD cells (first + (position - 1)) idleCell
 -- the standing of a rule's position
 unfoldable pub standingIn : List Cell → ℕ → ℕ → Standing
 standingIn cells rule position = standingFrom cells ((rule - 1) * mostEvents) position
+
+-- ---- position 0, one cell a rule
+
+abbrev pub idleOverall : List Cell
+idleOverall = replicate mostRules idleCell
+
+unfoldable pub overallIn : List Cell → ℕ → Standing
+overallIn cells rule = getD cells (rule - 1) idleCell .standing
+
+-- the standings of a rule: at position 0, and from position 1 on
+unfoldable pub withZero : Standing → (ℕ → Standing) → ℕ → Standing
+withZero z s zero = z
+withZero z s (suc i) = s (suc i)
+
+-- `of` says of which rules, and `f` what the standing becomes; the others stay as they are
+unfoldable pub overallCell : (ℕ → Bool) → (ℕ → ℕ → Standing → Standing) → ℕ → Cell → Cell
+overallCell of f k c = cond (of (k + 1)) (record { standing = f (k + 1) 0 (c .standing) }) c
+
+unfoldable pub changedOverall : (ℕ → Bool) → (ℕ → ℕ → Standing → Standing) → List Cell → List Cell
+changedOverall of f cells = mapFrom (overallCell of f) 0 cells
+
+-- ---- positions from 1 on
 
 -- place j is of one of the rules, and of one of the n events
 unfoldable pub inUse : ℕ → ℕ → ℕ → Bool

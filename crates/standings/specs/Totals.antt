@@ -1,15 +1,15 @@
 -- The totals of a rule, by its standings.
 use mathlib.Core.Bool.{Bool, not}
-use Prim.Native.Nat.{ℕ, _+_, _%_}
+use Prim.Native.Nat.{ℕ, suc, _+_, _%_}
 use Rattle.declare.specs.declared.Standing.{Standing}
 use Rattle.declare.specs.declared.Standing.the-variants.{Idle, Open, Fulfilled, Violated}
 use Rattle.declare.specs.Lists.{countBelow}
 use Rattle.declare.specs.Standings.{isIdle, isOpen, isFulfilled, isViolated}
 use Rattle.standings.specs.declared.totals.Totals.{Totals}
 
--- how many of the positions 1 to n stand so; s is the standing of each
+-- how many of the positions 0 to n stand so; s is the standing of each
 unfoldable pub positionsOf : (Standing → Bool) → (ℕ → Standing) → ℕ → ℕ
-positionsOf p s n = countBelow (λ k. p (s (k + 1))) n
+positionsOf p s n = countBelow (λ k. p (s k)) (suc n)
 
 -- "activations (positions not idle ..), fulfilled, violated, open, each the count of such
 -- positions"

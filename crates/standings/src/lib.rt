@@ -1,8 +1,9 @@
 // The store of a run's standings: sixteen rows, one a rule, of 256 cells, one a position, in one
 // flat array.
 ghost use mathlib.Core.Path.{_≡_};
-ghost use Rattle.standings.specs.Places.{idleCells, standingIn};
+ghost use Rattle.standings.specs.Places.{idleCells, idleOverall, standingIn, overallIn};
 use crate::place::row_start;
+use declare::RULES;
 use declare::Standing;
 use declare::numbers::less_one;
 
@@ -26,6 +27,16 @@ pub fn idle_cells() -> [Cell; PLACES]
     [idle; PLACES]
 }
 
+// The same for position 0, one cell a rule.
+pub fn idle_overall() -> [Cell; RULES]
+    ensures { λ r. ⌜ r ≡ idleOverall ⌝ }
+{
+    let idle = Cell {
+        standing: Standing::Idle,
+    };
+    [idle; RULES]
+}
+
 // The standing of a rule's position; both count from 1. Past the cells it is idle.
 pub fn standing_in(cells: [Cell; PLACES], rule: usize, position: usize) -> Standing
     ensures { λ r. ⌜ r ≡ standingIn cells rule position ⌝ }
@@ -36,5 +47,17 @@ pub fn standing_in(cells: [Cell; PLACES], rule: usize, position: usize) -> Stand
         return Standing::Idle;
     }
     let c = cells[first + p];
+    c.standing
+}
+
+// The standing of a rule at position 0. Past the cells it is idle.
+pub fn overall_in(cells: [Cell; RULES], rule: usize) -> Standing
+    ensures { λ r. ⌜ r ≡ overallIn cells rule ⌝ }
+{
+    let k = less_one(rule);
+    if RULES <= k {
+        return Standing::Idle;
+    }
+    let c = cells[k];
     c.standing
 }

@@ -1,7 +1,7 @@
 // The totals of a rule: how many of its positions stand in each way.
 ghost use mathlib.Core.Path.{_≡_};
 ghost use Prim.Native.Nat.{_+_, _≤_};
-ghost use Rattle.standings.specs.Places.{places, standingFrom, standingIn};
+ghost use Rattle.standings.specs.Places.{places, standingFrom, standingIn, withZero};
 ghost use Rattle.standings.specs.Totals.{noTotals, oneMore, withStanding, totalsBy};
 use crate::Cell;
 use crate::PLACES;
@@ -64,12 +64,13 @@ pub fn with_standing(t: Totals, s: Standing) -> Totals
     }
 }
 
-// The totals of the n places of a row that begins at place `first`.
-fn totals_from(cells: [Cell; PLACES], first: usize, n: usize) -> Totals
+// The totals of a rule that stands at position 0 as `zero` says, with a row of n places from place
+// `first` on.
+fn totals_from(zero: Standing, cells: [Cell; PLACES], first: usize, n: usize) -> Totals
     requires { ⌜ first + n ≤ places ⌝ }
-    ensures { λ r. ⌜ r ≡ totalsBy (standingFrom cells first) n ⌝ }
+    ensures { λ r. ⌜ r ≡ totalsBy (withZero zero (standingFrom cells first)) n ⌝ }
 {
-    let mut t = no_totals();
+    let mut t = with_standing(no_totals(), zero);
     for p in 0..n {
         let c = cells[first + p];
         let s = c.standing;
@@ -78,10 +79,10 @@ fn totals_from(cells: [Cell; PLACES], first: usize, n: usize) -> Totals
     t
 }
 
-// The totals of a rule's first `count` positions; past the cells they are idle.
-pub fn totals_in(cells: [Cell; PLACES], rule: usize, count: usize) -> Totals
-    ensures { λ r. ⌜ r ≡ totalsBy (standingIn cells rule) count ⌝ }
+// The totals of a rule's positions 0 to `count`; past the cells they are idle.
+pub fn totals_in(zero: Standing, cells: [Cell; PLACES], rule: usize, count: usize) -> Totals
+    ensures { λ r. ⌜ r ≡ totalsBy (withZero zero (standingIn cells rule)) count ⌝ }
 {
     let first = row_start(rule);
-    totals_from(cells, first, min(count, PLACES - first))
+    totals_from(zero, cells, first, min(count, PLACES - first))
 }

@@ -23,7 +23,7 @@ returns : tie.Need-returns
 returns c =
     let a = c .before .before .before .args in
     let size : length (a .cells) ≡ places = search needs in
-    c .totals-from .ensures ∙ row-totals (a .cells) (a .rule) _ (c .before .before .row-start .ensures) size (a .count) _ (c .before .min .ensures)
+    c .totals-from .ensures ∙ row-totals (a .cells) (a .rule) _ (c .before .before .row-start .ensures) size (a .zero) (a .count) _ (c .before .min .ensures)
 
 pub totals-in-spec : {M : Type 1} → statement M
 totals-in-spec =

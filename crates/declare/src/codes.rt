@@ -1,0 +1,44 @@
+// The templates about the cycle as such, codes 13 to 16.
+ghost use mathlib.Core.Path.{_≡_};
+ghost use Prim.Native.Nat.{_≤_};
+ghost use Rattle.declare.specs.Overall.{isOverall, placesOf, overallOf, countsTarget};
+use crate::FIRST_OVERALL;
+use crate::LAST_TEMPLATE;
+use crate::Overall;
+
+pub fn is_overall(code: u8) -> bool
+    ensures { λ r. ⌜ r ≡ isOverall code ⌝ }
+{
+    (FIRST_OVERALL <= code) & (code <= LAST_TEMPLATE)
+}
+
+// Of n events, those at which a rule of this code may stand other than idle.
+pub fn places_of(code: u8, n: usize) -> usize
+    ensures { λ r. ⌜ (r ≡ placesOf code n) × (r ≤ n) ⌝ }
+{
+    if is_overall(code) { 0 } else { n }
+}
+
+// The template of such a code.
+pub fn overall_of(code: u8) -> Overall
+    ensures { λ r. ⌜ r ≡ overallOf code ⌝ }
+{
+    match code {
+        13 => Overall::Existence,
+        14 => Overall::Absence,
+        15 => Overall::Choice,
+        _ => Overall::ExclusiveChoice,
+    }
+}
+
+// Whether the target activity is judged too.
+pub fn counts_target(overall: Overall) -> bool
+    ensures { λ r. ⌜ r ≡ countsTarget overall ⌝ }
+{
+    match overall {
+        Overall::Existence => false,
+        Overall::Absence => false,
+        Overall::Choice => true,
+        Overall::ExclusiveChoice => true,
+    }
+}

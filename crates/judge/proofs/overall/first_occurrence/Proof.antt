@@ -1,0 +1,88 @@
+-- No event passed so far is an occurrence.
+use mathlib.Core.Path.{_≡_, sym, ap, _∙_}
+use Prim.Native.Nat.{_+_, _-_, _≤_, zero-le}
+use native.Mathlib.Omega.{arith}
+use native.Mathlib.Numerals.{add-one}
+use lib.ListN.{length, take}
+use Rattle.declare.specs.Limits.{mostEvents}
+use Rattle.declare.specs.Lists.{firstUpTo}
+use Rattle.declare.specs.Events.{noEvent, firstTime}
+use Rattle.declare.specs.Verdicts.{occursAt}
+use Rattle.judge.proofs.Occurrences.{first-begin, occurs-next, occurs-here, not-yet}
+use borrow.Author.Needs.{needs}
+use Rattle.judge.proofs.overall.first_occurrence.Statement.{statement}
+use Rattle.judge.proofs.overall.first_occurrence.Tie as tie
+
+abbrev Inv-loop : tie.InvT-loop
+Inv-loop rule activity n events first p₀ p =
+    (p ≤ n) × (n ≤ length events) × (first ≡ firstTime 0 (take n events)) × (firstUpTo (occursAt rule (take n events) activity) p ≡ 0)
+
+abbrev μ-loop : tie.MeasureT-loop
+μ-loop rule activity n events first p₀ p = n - p
+
+first-time-requires : tie.Need-first-time-requires Inv-loop μ-loop
+first-time-requires c κs = search needs
+
+loop-holds : tie.Need-loop-holds Inv-loop μ-loop
+loop-holds c =
+    let a = c .before .args in
+    let size : length (a .t3) ≡ mostEvents = search needs in
+    (omega arith, omega arith, c .first-time .ensures, first-begin _)
+
+mul-e : tie.Need-mul-e Inv-loop μ-loop
+mul-e c = search needs
+
+array-copy-out-e : tie.Need-array-copy-out-e Inv-loop μ-loop
+array-copy-out-e c = search needs
+
+occurs-at-requires : tie.Need-occurs-at-requires Inv-loop μ-loop
+occurs-at-requires c κs = search needs
+
+add-result : tie.Need-add-result Inv-loop μ-loop
+add-result c = search needs
+
+returns : tie.Need-returns Inv-loop μ-loop
+unfolding noEvent
+returns c =
+    let l = c .before .before .before .before .loop in
+    let a = c .before .before .before .before .before .before .args in
+    let here = occurs-next (a .rule) (a .activity) (a .n) (a .t3) (l .inv .1) (l .p) (omega arith) (l .inv .2) ∙ sym (c .before .occurs-at .ensures) ∙ c .if1 .taken in
+    rw add-one (occurs-here (a .rule) (a .activity) (a .n) (a .t3) (l .inv .1) (l .p) (omega arith) (l .inv .3) here, omega arith)
+
+add-p : tie.Need-add-p Inv-loop μ-loop
+add-p c = search needs
+
+loop-less : tie.Need-loop-less Inv-loop μ-loop
+loop-less c = search needs
+
+loop-again : tie.Need-loop-again Inv-loop μ-loop
+unfolding noEvent
+loop-again c =
+    let l = c .before .before .before .before .loop in
+    let a = c .before .before .before .before .before .before .args in
+    let here = occurs-next (a .rule) (a .activity) (a .n) (a .t3) (l .inv .1) (l .p) (omega arith) (l .inv .2) ∙ sym (c .before .occurs-at .ensures) ∙ c .if1 .left in
+    (omega arith, l .inv .1, l .inv .2, rw add-one (not-yet (a .rule) (a .activity) (a .n) (a .t3) (l .inv .1) (l .p) (l .inv .3) here))
+
+returns-2 : tie.Need-returns-2 Inv-loop μ-loop
+returns-2 c =
+    let l = c .before .loop in
+    let whole : l .p ≡ c .before .before .before .args .n = omega arith in
+    (sym (ap (firstUpTo _) (sym whole) ∙ l .inv .3), zero-le)
+
+pub first-occurrence-spec : {M : Type 1} → statement M
+first-occurrence-spec =
+    tie.close
+    (tie.spec
+    Inv-loop
+    μ-loop
+    first-time-requires
+    loop-holds
+    mul-e
+    array-copy-out-e
+    occurs-at-requires
+    add-result
+    returns
+    add-p
+    loop-less
+    loop-again
+    returns-2)
