@@ -1,15 +1,31 @@
 // The templates about the cycle as such, codes 13 to 16.
 ghost use mathlib.Core.Path.{_≡_};
 ghost use Prim.Native.Nat.{_≤_};
+ghost use Rattle.declare.specs.Rules.{isOverallRule};
 ghost use Rattle.declare.specs.Overall.{isOverall, placesOf, overallOf, countsTarget};
 use crate::FIRST_OVERALL;
 use crate::LAST_TEMPLATE;
 use crate::Overall;
+use crate::RULES;
+use crate::Table;
+use crate::numbers::less_one;
 
 pub fn is_overall(code: u8) -> bool
     ensures { λ r. ⌜ r ≡ isOverall code ⌝ }
 {
     (FIRST_OVERALL <= code) & (code <= LAST_TEMPLATE)
+}
+
+// Whether the table has a rule k, about the cycle as such.
+pub fn is_overall_rule(table: Table, k: usize) -> bool
+    ensures { λ r. ⌜ r ≡ isOverallRule table k ⌝ }
+{
+    let p = less_one(k);
+    if (table.count < k) | (RULES <= p) {
+        return false;
+    }
+    let rule = table.rules[p];
+    is_overall(rule.code)
 }
 
 // Of n events, those at which a rule of this code may stand other than idle.

@@ -1,9 +1,9 @@
-// The limits of rules: every number against its range.
+// The limits of rules: every number against its range, and what a template asks of its rule.
 ghost use mathlib.Core.Path.{_≡_};
 ghost use mathlib.Core.Bool.{false, true};
 ghost use Rattle.declare.specs.Lists.{all};
 ghost use Rattle.declare.specs.Conditions.{comparisonsOf};
-ghost use Rattle.declare.specs.Rules.{isReading, validReference, validComparison, noneTwice, validCondition, validEnd, validWindow, validHead, validRule};
+ghost use Rattle.declare.specs.Rules.{isReading, validReference, validComparison, noneTwice, validCondition, validEnd, validWindow, validHead, fitsTemplate, validRule};
 use crate::event::in_range;
 use crate::event::is_activity;
 use declare::Comparison;
@@ -14,6 +14,9 @@ use declare::LATEST;
 use declare::Reference;
 use declare::Rule;
 use declare::Window;
+use declare::codes::counts_target;
+use declare::codes::is_overall;
+use declare::codes::overall_of;
 
 fn is_reading(k: u8) -> bool
     ensures { λ r. ⌜ r ≡ isReading k ⌝ }
@@ -101,10 +104,23 @@ fn valid_head(rule: Rule) -> bool
         & valid_window(rule.window)
 }
 
+// Whether a rule about the cycle as such has no correlation, and activities that differ where both
+// count. Any other rule fits.
+pub fn fits_template(rule: Rule) -> bool
+    ensures { λ r. ⌜ r ≡ fitsTemplate rule ⌝ }
+{
+    if !is_overall(rule.code) {
+        return true;
+    }
+    let both_count = counts_target(overall_of(rule.code));
+    (rule.correlation.count == 0) & !(both_count & (rule.activation == rule.target))
+}
+
 pub fn valid_rule(rule: Rule) -> bool
     ensures { λ r. ⌜ r ≡ validRule rule ⌝ }
 {
     valid_head(rule)
         & valid_condition(false, rule.condition)
         & valid_condition(true, rule.correlation)
+        & fits_template(rule)
 }

@@ -13,7 +13,7 @@ use Rattle.line.specs.Values.{numberField}
 use Rattle.line.proofs.Lines.{partAfter}
 use Rattle.rule_text.specs.Types.{Condition, End}
 use Rattle.rule_text.specs.Conditions.{conditionField}
-use Rattle.rule_text.specs.Rules.{endField, isAbove, ruleFieldCount, ruleOf}
+use Rattle.rule_text.specs.Rules.{endField, checkedRule, ruleFieldCount, ruleOf}
 use Rattle.rule_text.specs.Reads.{headBy, ruleBy}
 
 flat : (a b c d : Answer ℕ) (e : Answer End) (f g : Answer Condition) →
@@ -25,8 +25,7 @@ flat : (a b c d : Answer ℕ) (e : Answer End) (f g : Answer Condition) →
       until ← e
       condition ← f
       correlation ← g
-      require (isAbove until from) 6
-      accepted (record { code = code; activation = activation; target = target; window = record { from = from; until = until }; condition = condition; correlation = correlation }))
+      checkedRule (record { code = code; activation = activation; target = target; window = record { from = from; until = until }; condition = condition; correlation = correlation }))
     ≡ ruleBy (headBy a b c d e) f g
 unfolding _>>=_ headBy ruleBy
 flat (refused n) b c d e f g = refl

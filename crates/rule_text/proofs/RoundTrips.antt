@@ -14,8 +14,9 @@ use Rattle.declare.specs.declared.Reading.the-variants.{Blank}
 use Rattle.declare.specs.Lists.{all}
 use Rattle.declare.specs.Limits.{lastActivity, lastTemplate, mostRules}
 use Rattle.declare.specs.Events.{latest, isActivity}
-use Rattle.declare.specs.Rules.{isTemplate, validCondition, validEnd, validWindow, validHead, validRule, rulesOf, validTable}
-use Rattle.declare.proofs.Booleans.{and₂, and₃, and₄, both, all-append}
+use Rattle.declare.specs.Rules.{isTemplate, validCondition, validEnd, validWindow, validHead, fitsTemplate, validRule, rulesOf, validTable}
+use Rattle.declare.proofs.Booleans.{and₂, both, all-append}
+use Rattle.declare.proofs.Arrival.{rule-parts}
 use Rattle.declare.proofs.Tables.{rules-within}
 use Rattle.number.specs.Number.{dash, none}
 use Rattle.number.specs.Written.{digitsOf, integerText}
@@ -24,17 +25,17 @@ use Rattle.line.specs.Fields.{LF, tab}
 use Rattle.declare.specs.Answers.{accepted, _>>=_, _>>_, require}
 use Rattle.line.specs.Values.{numberField, readingText}
 use Rattle.line.specs.Texts.{All, Stop, writtenLine, writtenText}
-use Rattle.declare.proofs.Answers.{of-of, through, required}
+use Rattle.declare.proofs.Answers.{of-of, through, required, passed}
 use Rattle.line.proofs.Values.{dash-text, number-written, number-read, lacks-number, lacks-reading}
 use Rattle.line.proofs.Lines.{all-numbered}
 use Rattle.line.proofs.Joined.{lacks}
 use Rattle.line.proofs.Texts.{Parted, Follow, text-written, text-back, accepted-records, refused-line}
 use Rattle.rule_text.specs.Types.{End, Never, At, Rule, Table}
 use Rattle.rule_text.specs.Conditions.{comma, conditionField}
-use Rattle.rule_text.specs.Rules.{endField, isAbove, ruleFieldCount, ruleOf, inTable, ruleAfter, rulesTextOf}
+use Rattle.rule_text.specs.Rules.{endField, isAbove, checkedRule, ruleFieldCount, ruleOf, inTable, ruleAfter, rulesTextOf}
 use Rattle.rule_text.specs.Written.{conditionText, endText, ruleFields, rulesText, canonical, ValidRules, RoundTrips}
 use Rattle.rule_text.proofs.ConditionTexts.{condition-lacks, condition-written, condition-read}
-use Rattle.rule_text.proofs.Canonical.{canonical-comparisons}
+use Rattle.rule_text.proofs.Canonical.{canonical-comparisons, canonical-fits}
 
 -- ---- the end of a window
 
@@ -81,7 +82,7 @@ end-lacks b h (At n) = lacks-number b n h
 
 -- ---- a line that was read
 
--- what its seven fields gave
+-- what its seven fields gave, and its checks
 record RuleRead (fields : List (List ℕ)) (r : Rule) : Type 0 where
   seven : length fields ≡ ruleFieldCount
   code : numberField 1 lastTemplate (getD fields 0 []) ≡ accepted (r .code)
@@ -92,9 +93,10 @@ record RuleRead (fields : List (List ℕ)) (r : Rule) : Type 0 where
   condition : conditionField false (getD fields 5 []) ≡ accepted (r .condition)
   correlation : conditionField true (getD fields 6 []) ≡ accepted (r .correlation)
   order : isAbove (r .window .until) (r .window .from) ≡ true
+  fits : fitsTemplate r ≡ true
 
 rule-read : (fields : List (List ℕ)) (r : Rule) → ruleOf fields ≡ accepted r → RuleRead fields r
-unfolding ruleOf
+unfolding ruleOf checkedRule
 rule-read fields r h =
     let s = required _ 1 _ r h in
     let c = through _ _ r (s .1) in
@@ -105,7 +107,8 @@ rule-read fields r h =
     let x = through _ _ r (u .rest) in
     let y = through _ _ r (x .rest) in
     let o = required _ 6 _ r (y .rest) in
-    let k = of-of (o .1) in
+    let m = required _ 16 _ r (o .1) in
+    let k = of-of (m .1) in
     record {
       seven = eqb-true (length fields) ruleFieldCount (s .0);
       code = c .first ∙ ap (λ (q : Rule). accepted (q .code)) k;
@@ -116,6 +119,7 @@ rule-read fields r h =
       condition = x .first ∙ ap (λ (q : Rule). accepted (q .condition)) k;
       correlation = y .first ∙ ap (λ (q : Rule). accepted (q .correlation)) k;
       order = sym (ap (λ (q : Rule). isAbove (q .window .until) (q .window .from)) k) ∙ o .0;
+      fits = sym (ap fitsTemplate k) ∙ m .0;
     }
 
 in-range : (low high n : ℕ) → low ≤ n → n ≤ high → (leb low n && leb n high) ≡ true
@@ -129,7 +133,7 @@ read-valid fields r h =
     let a = number-read 1 lastActivity _ _ (h .activation) in
     let t = number-read 1 lastActivity _ _ (h .target) in
     let f = number-read 0 latest _ _ (h .from) in
-    rw (in-range 1 lastTemplate (r .code) (c .low) (c .high), in-range 1 lastActivity (r .activation) (a .low) (a .high), in-range 1 lastActivity (r .target) (t .low) (t .high), le-leb (r .window .from) latest (f .high), end-read _ _ (h .until) .valid (r .window .from) (h .order), condition-read false _ _ (h .condition) .valid, condition-read true _ _ (h .correlation) .valid)
+    rw (in-range 1 lastTemplate (r .code) (c .low) (c .high), in-range 1 lastActivity (r .activation) (a .low) (a .high), in-range 1 lastActivity (r .target) (t .low) (t .high), le-leb (r .window .from) latest (f .high), end-read _ _ (h .until) .valid (r .window .from) (h .order), condition-read false _ _ (h .condition) .valid, condition-read true _ _ (h .correlation) .valid, h .fits)
 
 -- has noComparison in the slots that are not in use
 read-canonical : (fields : List (List ℕ)) (r : Rule) → RuleRead fields r → canonical r ≡ r
@@ -208,6 +212,7 @@ pub record Limits (r : Rule) : Type 0 where
   pub until : validEnd (r .window .from) (r .window .until) ≡ true
   pub condition : validCondition false (r .condition) ≡ true
   pub correlation : validCondition true (r .correlation) ≡ true
+  pub fits : fitsTemplate r ≡ true
 
 ends : (low high n : ℕ) → (leb low n && leb n high) ≡ true → (low ≤ n) × (n ≤ high)
 ends low high n h =
@@ -215,19 +220,19 @@ ends low high n h =
     (leb-true low n (p .0), leb-true n high (p .1))
 
 pub limits : (r : Rule) → validRule r ≡ true → Limits r
-unfolding validRule validHead validWindow isTemplate isActivity
+unfolding validWindow isTemplate isActivity
 limits r h =
-    let p : (validHead r ≡ true) × (validCondition false (r .condition) ≡ true) × (validCondition true (r .correlation) ≡ true) = and₃ h in
-    let q : (isTemplate (r .code) ≡ true) × (isActivity (r .activation) ≡ true) × (isActivity (r .target) ≡ true) × (validWindow (r .window) ≡ true) = and₄ (p .0) in
-    let w : (leb (r .window .from) latest ≡ true) × (validEnd (r .window .from) (r .window .until) ≡ true) = and₂ (q .3) in
+    let p = rule-parts r h in
+    let w : (leb (r .window .from) latest ≡ true) × (validEnd (r .window .from) (r .window .until) ≡ true) = and₂ (p .window) in
     record {
-      code = ends 1 lastTemplate (r .code) (q .0);
-      activation = ends 1 lastActivity (r .activation) (q .1);
-      target = ends 1 lastActivity (r .target) (q .2);
+      code = ends 1 lastTemplate (r .code) (p .template);
+      activation = ends 1 lastActivity (r .activation) (p .activation);
+      target = ends 1 lastActivity (r .target) (p .target);
       from = leb-true (r .window .from) latest (w .0);
       until = w .1;
-      condition = p .1;
-      correlation = p .2;
+      condition = p .condition;
+      correlation = p .correlation;
+      fits = p .fits;
     }
 
 valid-above : (a : ℕ) (e : End) → validEnd a e ≡ true → isAbove e a ≡ true
@@ -235,11 +240,17 @@ unfolding validEnd isAbove
 valid-above a Never v = refl
 valid-above a (At b) v = and₂ v .0
 
+-- it passes the checks of a rule that was read
+checked-written : (r : Rule) → Limits r → checkedRule (canonical r) ≡ accepted (canonical r)
+unfolding checkedRule canonical
+checked-written r w =
+    passed 6 _ (valid-above (r .window .from) (r .window .until) (w .until)) ∙ passed 16 _ (canonical-fits r ∙ w .fits)
+
 rule-written : (r : Rule) → validRule r ≡ true → ruleOf (ruleFields r) ≡ accepted (canonical r)
 unfolding ruleOf ruleFields canonical require _>>_ _>>=_
 rule-written r h =
     let w = limits r h in
-    rw (number-written 1 lastTemplate (r .code) (w .code .0) (w .code .1), number-written 1 lastActivity (r .activation) (w .activation .0) (w .activation .1), number-written 1 lastActivity (r .target) (w .target .0) (w .target .1), number-written 0 latest (r .window .from) (omega arith) (w .from), end-written (r .window .from) (r .window .until) (w .until), condition-written false (r .condition) (w .condition), condition-written true (r .correlation) (w .correlation), valid-above (r .window .from) (r .window .until) (w .until))
+    rw (number-written 1 lastTemplate (r .code) (w .code .0) (w .code .1), number-written 1 lastActivity (r .activation) (w .activation .0) (w .activation .1), number-written 1 lastActivity (r .target) (w .target .0) (w .target .1), number-written 0 latest (r .window .from) (omega arith) (w .from), end-written (r .window .from) (r .window .until) (w .until), condition-written false (r .condition) (w .condition), condition-written true (r .correlation) (w .correlation)) (checked-written r w)
 
 after-written : (above : List Rule) (r : Rule) → validRule r ≡ true → length above < mostRules → ruleAfter above (ruleFields r) ≡ accepted (canonical r)
 unfolding ruleAfter inTable require _>>_ _>>=_

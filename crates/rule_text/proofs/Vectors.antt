@@ -9,7 +9,8 @@ use lib.IntN.{ℤ, pos, negsuc}
 use lib.ListN.{length, replicate}
 use Rattle.declare.specs.Conditions.{comparisonsOf}
 use Rattle.declare.specs.Lists.{any}
-use Rattle.declare.specs.Rules.{noComparison, noCondition, noRule}
+use Rattle.declare.specs.Overall.{isOverall, overallOf}
+use Rattle.declare.specs.Rules.{fitsTemplate, noComparison, noCondition, noRule}
 use Rattle.number.specs.Number.{digit, digits, none, zeroAlone, positive, negative, naturalForm, integerForm, dash, valueFrom, valueOf, integerValue, inNaturalRange, naturalOf, inSignedRange, integerOf}
 use Rattle.number.specs.Written.{digitsIn, digitsOf, integerText}
 use Rattle.number.proofs.Quoted.{bytes, repeated, Case, _gives_, Checked}
@@ -20,7 +21,7 @@ use Rattle.line.specs.Texts.{Records, All, Stop, lineAfter, continued, linesOf,
 use Rattle.rule_text.specs.Types.{Operator, Equal, NotEqual, Less, AtMost, Greater, AtLeast, Reference, Constant, Activation, Comparison, Condition, End, Never, At, Rule}
 use Rattle.rule_text.specs.Comparisons.{readingDigit, digitOf, operatorOf, kNumber, kAnswer, kField, constantField, activationField, referenceField, comparisonField}
 use Rattle.rule_text.specs.Conditions.{tested, comparisonsAfter, conditionOf, comparisonsField, conditionField}
-use Rattle.rule_text.specs.Rules.{endField, isAbove, ruleOf, inTable, ruleAfter, rulesTextOf}
+use Rattle.rule_text.specs.Rules.{endField, isAbove, checkedRule, ruleOf, inTable, ruleAfter, rulesTextOf}
 use Rattle.rule_text.specs.Written.{referenceText, comparisonText, comparisonsText, conditionText, endText, ruleFields, rulesText}
 use Rattle.declare.specs.Limits.{mostRules}
 use Rattle.declare.specs.Slots.{padded}
@@ -167,6 +168,10 @@ acceptedTexts =
     ∷ "12\t64\t64\t4294967294\t4294967295\t-\t-\n" gives All (rule 12 64 64 4294967294 (At 4294967295) (conditionOf []) ∷ [])
     ∷ "7\t3\t3\t4294967295\t-\t-\t-\n" gives All (rule 7 3 3 4294967295 Never (conditionOf []) ∷ [])
     ∷ longestText gives All (longest ∷ [])
+    -- rules about the cycle; under 13 and 14 the activities may be equal
+    ∷ "13\t1\t1\t0\t-\t-\t-\n" gives All (rule 13 1 1 0 Never (conditionOf []) ∷ [])
+    ∷ "14\t64\t2\t10\t20\t-\t-\n" gives All (rule 14 64 2 10 (At 20) (conditionOf []) ∷ [])
+    ∷ "15\t1\t2\t0\t-\t-\t-\n16\t2\t1\t0\t-\t-\t-\n" gives All (rule 15 1 2 0 Never (conditionOf []) ∷ rule 16 2 1 0 Never (conditionOf []) ∷ [])
     ∷ []
 
 -- each cause, with its line
@@ -192,7 +197,7 @@ refusedTexts =
     ∷ "1\t1\t1\t0\t--\t-\t-\n" gives Stop 2 1
     -- the ends of the ranges; numbers of any length
     ∷ "0\t1\t1\t0\t-\t-\t-\n" gives Stop 3 1
-    ∷ "13\t1\t1\t0\t-\t-\t-\n" gives Stop 3 1
+    ∷ "17\t1\t1\t0\t-\t-\t-\n" gives Stop 3 1
     ∷ "1\t0\t1\t0\t-\t-\t-\n" gives Stop 3 1
     ∷ "1\t65\t1\t0\t-\t-\t-\n" gives Stop 3 1
     ∷ "1\t1\t65\t0\t-\t-\t-\n" gives Stop 3 1
@@ -214,6 +219,13 @@ refusedTexts =
     ∷ "1\t1\t1\t0\t-\t-\t1=5,1=@1:0\n" gives Stop 5 1
     ∷ "1\t1\t1\t5\t5\t-\t-\n" gives Stop 6 1
     ∷ "1\t1\t1\t0\t-\t-\t-\n1\t1\t1\t6\t5\t-\t-\n" gives Stop 6 2
+    -- activities that both count and are equal; a correlation, `@` in it or not
+    ∷ "15\t1\t1\t0\t-\t-\t-\n" gives Stop 16 1
+    ∷ "16\t64\t64\t0\t-\t-\t-\n" gives Stop 16 1
+    ∷ "13\t1\t2\t0\t-\t-\t1=5\n" gives Stop 16 1
+    ∷ "14\t1\t2\t0\t-\t-\t1=@1:0\n" gives Stop 16 1
+    ∷ "15\t1\t2\t0\t-\t-\t1=5,2=5\n" gives Stop 16 1
+    ∷ "1\t1\t1\t0\t-\t-\t1=5\n16\t1\t2\t0\t-\t-\t4=5\n" gives Stop 16 2
     ∷ "1\t1\t1\t0\t-\t-\t-" gives Stop 12 1
     ∷ "1\t1\t1\t0\t-\t-\t-\n1\t1\t1\t0\t-\t-\t-" gives Stop 12 2
     ∷ []
@@ -228,7 +240,7 @@ ordered =
     -- 1 before 2
     ∷ "x\t1\n" gives Stop 1 1
     -- field by field, so that 3 of a field comes before 2 of the next
-    ∷ "13\tx\t1\t0\t-\t-\t-\n" gives Stop 3 1
+    ∷ "17\tx\t1\t0\t-\t-\t-\n" gives Stop 3 1
     ∷ "x\t65\t1\t0\t-\t-\t-\n" gives Stop 2 1
     ∷ "1\t65\tx\t0\t-\t-\t-\n" gives Stop 3 1
     ∷ "1\t1\tx\t4294967296\t-\t-\t-\n" gives Stop 2 1
@@ -246,7 +258,14 @@ ordered =
     ∷ "1\t1\t1\t5\t5\t-\t1=99999999999\n" gives Stop 3 1
     ∷ "1\t1\t1\t5\t5\t-\t1=1,1=2\n" gives Stop 5 1
     ∷ "1\t1\t1\t5\t0\t-\t-\n" gives Stop 3 1
-    -- the first line that is refusedTexts
+    -- all fields before 16, and 6 too
+    ∷ "15\t1\t1\t0\t-\tzz\t-\n" gives Stop 4 1
+    ∷ "13\t1\t1\t0\t-\t-\tzz\n" gives Stop 4 1
+    ∷ "13\t1\t1\t0\t-\t-\t1=99999999999\n" gives Stop 3 1
+    ∷ "13\t1\t1\t0\t-\t-\t1=1,1=2\n" gives Stop 5 1
+    ∷ "15\t1\t1\t5\t5\t-\t-\n" gives Stop 6 1
+    ∷ "13\t1\t1\t5\t5\t-\t1=5\n" gives Stop 6 1
+    -- the first line that is refused
     ∷ "1\t1\t1\t5\t5\t-\t-\nx\n" gives Stop 6 1
     ∷ "\n1" gives Stop 1 1
     ∷ []
@@ -258,10 +277,11 @@ full =
     ∷ "1\t1\t1\t0\t-\t-\t-\n\n" gives Stop 8 17
     ∷ "\n" gives Stop 1 17
     ∷ "x\t1\t1\t0\t-\t-\t-\n" gives Stop 2 17
-    ∷ "13\t1\t1\t0\t-\t-\t-\n" gives Stop 3 17
+    ∷ "17\t1\t1\t0\t-\t-\t-\n" gives Stop 3 17
     ∷ "1\t1\t1\t0\t-\tzz\t-\n" gives Stop 4 17
     ∷ "1\t1\t1\t0\t-\t1=1,1=2\t-\n" gives Stop 5 17
     ∷ "1\t1\t1\t5\t5\t-\t-\n" gives Stop 6 17
+    ∷ "15\t1\t1\t0\t-\t-\t-\n" gives Stop 16 17
     ∷ "1\t1\t1\t0\t-\t-\t-" gives Stop 12 17
     ∷ "" gives All (replicate 16 (rule 1 1 1 0 Never (conditionOf [])))
     ∷ []
@@ -281,7 +301,7 @@ pub record Vectors : Type 0 where
   pub of-slots : padded mostRules noRule listing ≡ listing ++ replicate 14 noRule
 
 pub vectors : Vectors
-unfolding any comparisonsOf noComparison noCondition noRule digit digits none zeroAlone positive negative naturalForm integerForm dash valueFrom valueOf integerValue inNaturalRange naturalOf inSignedRange integerOf digitsIn digitsOf integerText onto split eachAfter joined _>>=_ _>>_ require faultNumber naturalAnswer numberField lineAfter continued linesOf textOf writtenLine writtenText readingDigit digitOf operatorOf kNumber kAnswer kField constantField activationField referenceField comparisonField tested comparisonsAfter conditionOf comparisonsField conditionField endField isAbove ruleOf inTable ruleAfter rulesTextOf referenceText comparisonText comparisonsText conditionText endText ruleFields rulesText padded
+unfolding any comparisonsOf noComparison noCondition noRule digit digits none zeroAlone positive negative naturalForm integerForm dash valueFrom valueOf integerValue inNaturalRange naturalOf inSignedRange integerOf digitsIn digitsOf integerText onto split eachAfter joined _>>=_ _>>_ require faultNumber naturalAnswer numberField lineAfter continued linesOf textOf writtenLine writtenText readingDigit digitOf operatorOf kNumber kAnswer kField constantField activationField referenceField comparisonField tested comparisonsAfter conditionOf comparisonsField conditionField isOverall overallOf fitsTemplate endField isAbove checkedRule ruleOf inTable ruleAfter rulesTextOf referenceText comparisonText comparisonsText conditionText endText ruleFields rulesText padded
 vectors =
     record {
       of-constants = refl;

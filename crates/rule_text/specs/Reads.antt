@@ -8,11 +8,11 @@ use Rattle.declare.specs.Refusals.{numberOf}
 use Rattle.declare.specs.Rules.{rulesOf}
 use Rattle.declare.specs.Slots.{tableOf}
 use Rattle.line.specs.Fields.{indexOf, before}
-use Rattle.declare.specs.Answers.{Answer, accepted, refused, _>>=_, _>>_, require}
+use Rattle.declare.specs.Answers.{Answer, accepted, refused, _>>=_}
 use Rattle.line.specs.Texts.{Records, All, Stop, recordsRead}
 use Rattle.rule_text.specs.Types.{Operator, Reference, Comparison, Condition, End, Rule, OperatorAnswer, Compares, NoOperator, KAnswer, K, NoK, ReferenceAnswer, Refers, NoReference, ComparisonAnswer, Compared, NotCompared, ConditionAnswer, Comparisons, NoComparisons, EndAnswer, Until, NoUntil, RuleHead, HeadAnswer, Head, NoHead, RuleAnswer, Found, NoRule, RulesRead}
 use Rattle.rule_text.specs.Conditions.{comma}
-use Rattle.rule_text.specs.Rules.{isAbove, rulesTextOf}
+use Rattle.rule_text.specs.Rules.{checkedRule, rulesTextOf}
 
 -- ---- comparisons, from the part of a condition that begins at one
 
@@ -79,8 +79,7 @@ ruleBy head condition correlation = do
   h ← head
   condition ← condition
   correlation ← correlation
-  require (isAbove (h .window .until) (h .window .from)) 6
-  accepted (record { code = h .code; activation = h .activation; target = h .target; window = h .window; condition = condition; correlation = correlation })
+  checkedRule (record { code = h .code; activation = h .activation; target = h .target; window = h .window; condition = condition; correlation = correlation })
 
 -- ---- the text
 

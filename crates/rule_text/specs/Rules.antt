@@ -1,6 +1,6 @@
 -- What a rules text holds, by document 01: its lines, their fields, and the order of the checks.
 -- "In a line: 12, 1, then field by field 2 or 4, 3, 5 (in a condition comparison by comparison),
--- then 6 .., then 8." The line's 12 is in `textOf`.
+-- then 6 .., then 8"; 16 "follows 6" (document 02). The line's 12 is in `textOf`.
 use mathlib.Core.Bool.{Bool, true, false, cond}
 use mathlib.Core.List.{List, []}
 use Prim.Native.Nat.{ℕ}
@@ -8,6 +8,7 @@ use lib.Dec.{eqb, ltb}
 use lib.ListN.{length, getD}
 use Rattle.declare.specs.Limits.{lastActivity, lastTemplate, mostRules}
 use Rattle.declare.specs.Events.{latest}
+use Rattle.declare.specs.Rules.{fitsTemplate}
 use Rattle.number.specs.Number.{dash}
 use Rattle.declare.specs.Answers.{Answer, accepted, _>>=_, _>>_, require}
 use Rattle.line.specs.Values.{numberField}
@@ -28,12 +29,18 @@ unfoldable pub isAbove : End → ℕ → Bool
 isAbove Never a = true
 isAbove (At b) a = ltb a b
 
+-- 6 is "b not above a", 16 "equal activities under 15 or 16, or a correlation under 13 to 16"
+unfoldable pub checkedRule : Rule → Answer Rule
+checkedRule rule = do
+  require (isAbove (rule .window .until) (rule .window .from)) 6
+  require (fitsTemplate rule) 16
+  accepted rule
+
 -- "a rule line: code, activation activity, target activity, a, b, activation condition, correlation
 -- condition"
 abbrev pub ruleFieldCount : ℕ
 ruleFieldCount = 7
 
--- "b not above a" is 6
 unfoldable pub ruleOf : List (List ℕ) → Answer Rule
 ruleOf fields = do
   require (eqb (length fields) ruleFieldCount) 1
@@ -44,8 +51,7 @@ ruleOf fields = do
   b ← endField (getD fields 4 [])
   condition ← conditionField false (getD fields 5 [])
   correlation ← conditionField true (getD fields 6 [])
-  require (isAbove b a) 6
-  accepted (record { code = code; activation = activation; target = target; window = record { from = a; until = b }; condition = condition; correlation = correlation })
+  checkedRule (record { code = code; activation = activation; target = target; window = record { from = a; until = b }; condition = condition; correlation = correlation })
 
 -- the "17th rule" is 8
 unfoldable pub inTable : List Rule → Rule → Answer Rule

@@ -5,7 +5,7 @@ ghost use Prim.Native.Nat.{_+_};
 ghost use Rattle.line.specs.Fields.{LF, indexOf, fieldsFrom};
 ghost use Rattle.line.specs.Texts.{lineOf};
 ghost use Rattle.line.specs.Values.{numberRead, byteRead};
-ghost use Rattle.rule_text.specs.Rules.{ruleOf};
+ghost use Rattle.rule_text.specs.Rules.{checkedRule, ruleOf};
 ghost use Rattle.rule_text.specs.Reads.{conditionRead, endRead, headRead, headBy, ruleRead, ruleBy};
 use crate::condition::ConditionAnswer;
 use crate::condition::condition_field;
@@ -17,6 +17,7 @@ use declare::LAST_TEMPLATE;
 use declare::Refusal;
 use declare::Rule;
 use declare::Window;
+use limits::rule::fits_template;
 use line::ByteAnswer;
 use line::LINE_FEED;
 use line::NumberAnswer;
@@ -84,6 +85,21 @@ pub enum RuleAnswer {
     NoRule(Refusal),
 }
 
+// The checks of a rule whose fields are all read.
+fn checked_rule(rule: Rule) -> RuleAnswer
+    ensures { λ r. ⌜ ruleRead r ≡ checkedRule rule ⌝ }
+{
+    let window = rule.window;
+    let until = window.until;
+    if !is_above(until, window.from) {
+        return RuleAnswer::NoRule(Refusal::EmptyWindow);
+    }
+    if !fits_template(rule) {
+        return RuleAnswer::NoRule(Refusal::TemplateMismatch);
+    }
+    RuleAnswer::Found(rule)
+}
+
 fn rule_of(head: HeadAnswer, condition: ConditionAnswer, correlation: ConditionAnswer) -> RuleAnswer
     ensures { λ r. ⌜ ruleRead r ≡ ruleBy (headRead head) (conditionRead condition) (conditionRead correlation) ⌝ }
 {
@@ -100,11 +116,7 @@ fn rule_of(head: HeadAnswer, condition: ConditionAnswer, correlation: ConditionA
         ConditionAnswer::NoComparisons(cause) => return RuleAnswer::NoRule(cause),
     };
     let window = head.window;
-    let until = window.until;
-    if !is_above(until, window.from) {
-        return RuleAnswer::NoRule(Refusal::EmptyWindow);
-    }
-    RuleAnswer::Found(Rule {
+    checked_rule(Rule {
         code: head.code,
         activation: head.activation,
         target: head.target,

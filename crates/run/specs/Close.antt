@@ -6,12 +6,12 @@ use Prim.Native.Nat.{ℕ}
 use Rattle.declare.specs.declared.Event.{Event}
 use Rattle.declare.specs.declared.Table.{Table}
 use Rattle.declare.specs.declared.Standing.{Standing}
-use Rattle.declare.specs.Rules.{ruleAt}
+use Rattle.declare.specs.Rules.{ruleAt, isOverallRule}
 use Rattle.declare.specs.Answers.{Answer, accepted, _>>_, require}
 use Rattle.declare.specs.Steps.{closed}
 use Rattle.standings.specs.declared.Cell.{Cell}
-use Rattle.standings.specs.Places.{idleCells, changed}
-use Rattle.judge.specs.Cells.{judgedCells}
+use Rattle.standings.specs.Places.{idleCells, idleOverall, changed, changedOverall}
+use Rattle.judge.specs.Cells.{judgedCells, judgedOverall}
 use Rattle.run.specs.declared.Run.{Run}
 use Rattle.run.specs.Records.{eventsOf, withEvents, withStandings, asClosed, validRun}
 use Rattle.run.specs.Start.{newRun}
@@ -24,12 +24,18 @@ closedAt t es k i s = closed (ruleAt t k) es i s
 unfoldable pub closedCells : Table → List Event → ℕ → List Cell → List Cell
 closedCells t es n cells = changed (closedAt t es) (t .count) n cells
 
--- of the templates there are, whatever the events
+-- at positions from 1 on, whatever the events
 abbrev pub ClosedCells : Table → ℕ → List Cell → List Cell → Type 0
 ClosedCells t n cells next = (es : List Event) → next ≡ closedCells t es n cells
 
+-- and at position 0
+unfoldable pub closedOverall : Table → List Event → List Cell → List Cell
+closedOverall t es overall = changedOverall (isOverallRule t) (closedAt t es) overall
+
 unfoldable pub closedRun : Run → Run
-closedRun r = asClosed (withStandings r (closedCells (r .table) (eventsOf r) (r .count) (r .cells)))
+closedRun r =
+    asClosed
+    (withStandings r (closedCells (r .table) (eventsOf r) (r .count) (r .cells)) (closedOverall (r .table) (eventsOf r) (r .overall)))
 
 -- "close: 11, 9"
 unfoldable pub closeOf : Run → Answer Run
@@ -41,4 +47,5 @@ closeOf r = do
 -- the closed run of a table and the events of a whole cycle: each standing is judged once
 unfoldable pub finishedRun : Table → ℕ → List Event → Run
 finishedRun t n events =
-    asClosed (withStandings (withEvents (newRun t) n events) (judgedCells false t events n 0 idleCells))
+    asClosed
+    (withStandings (withEvents (newRun t) n events) (judgedCells false t events n 0 idleCells) (judgedOverall false t events n 0 idleOverall))

@@ -1,6 +1,6 @@
 -- A run's record, and what makes it valid: the causes of 11.
 use mathlib.Core.Path.{_≡_}
-use mathlib.Core.Bool.{Bool, true, not, cond, _&&_}
+use mathlib.Core.Bool.{Bool, true, not, cond, _&&_, _||_}
 use mathlib.Core.List.{List}
 use Prim.Native.Nat.{ℕ, _+_}
 use lib.Dec.{leb}
@@ -11,12 +11,14 @@ use Rattle.declare.specs.declared.Standing.the-variants.{Idle, Open, Fulfilled,
 use Rattle.declare.specs.Lists.{all, allBelow}
 use Rattle.declare.specs.Limits.{mostRules, mostEvents}
 use Rattle.declare.specs.Events.{wellFormed, nonFalling}
-use Rattle.declare.specs.Rules.{validTable}
+use Rattle.declare.specs.Overall.{placesOf}
+use Rattle.declare.specs.Rules.{ruleAt, isOverallRule, validTable}
+use Rattle.declare.specs.declared.Table.{Table}
 use Rattle.declare.specs.Standings.{isIdle}
 use Rattle.declare.specs.Continuations.{horizon}
 use Rattle.standings.specs.declared.Cell.{Cell}
 use Rattle.standings.specs.declared.totals.Totals.{Totals}
-use Rattle.standings.specs.Places.{places, standingIn}
+use Rattle.standings.specs.Places.{places, standingIn, overallIn, zeroIn, withZero}
 use Rattle.standings.specs.Totals.{totalsBy}
 use Rattle.run.specs.declared.Run.{Run}
 
@@ -30,11 +32,12 @@ eventsOf r = take (r .count) (r .events)
 abbrev pub horizonOf : Run → ℕ
 horizonOf r = horizon (eventsOf r)
 
--- the standing of a rule's position
+-- the standing of a rule's position; position 0 is the cycle as such
 abbrev pub standingAt : Run → ℕ → ℕ → Standing
-standingAt r rule position = standingIn (r .cells) rule position
+standingAt r rule position =
+    withZero (zeroIn (r .table) (r .overall) rule) (standingIn (r .cells) rule) position
 
--- of the positions of its events
+-- of position 0 and those of its events
 abbrev pub totalsIn : Run → ℕ → Totals
 totalsIn r rule = totalsBy (standingAt r rule) (r .count)
 
@@ -42,14 +45,15 @@ totalsIn r rule = totalsBy (standingAt r rule) (r .count)
 
 abbrev pub withEvents : Run → ℕ → List Event → Run
 withEvents r count events =
-    record { closed = r .closed; table = r .table; count = count; events = events; cells = r .cells }
+    record { closed = r .closed; table = r .table; count = count; events = events; cells = r .cells; overall = r .overall }
 
-abbrev pub withStandings : Run → List Cell → Run
-withStandings r cells =
-    record { closed = r .closed; table = r .table; count = r .count; events = r .events; cells = cells }
+abbrev pub withStandings : Run → List Cell → List Cell → Run
+withStandings r cells overall =
+    record { closed = r .closed; table = r .table; count = r .count; events = r .events; cells = cells; overall = overall }
 
 abbrev pub asClosed : Run → Run
-asClosed r = record { closed = true; table = r .table; count = r .count; events = r .events; cells = r .cells }
+asClosed r =
+    record { closed = true; table = r .table; count = r .count; events = r .events; cells = r .cells; overall = r .overall }
 
 -- ---- valid
 
@@ -74,19 +78,32 @@ unfoldable pub validRow : Bool → ℕ → List Cell → ℕ → Bool
 validRow closed count cells rule =
     allBelow (λ p. validAt closed count (p + 1) (standingIn cells rule (p + 1))) mostEvents
 
--- the rows of the rules; other rows are not read
-unfoldable pub validStandings : Bool → ℕ → ℕ → List Cell → Bool
-validStandings closed rules count cells = allBelow (λ k. validRow closed count cells (k + 1)) rules
+-- the rows of the rules; other rows are not read. A rule about the cycle "is idle at events (.. not
+-- idle at an event is 11)"
+unfoldable pub validStandings : Bool → Table → ℕ → List Cell → Bool
+validStandings closed t count cells =
+    allBelow (λ k. validRow closed (placesOf (ruleAt t (k + 1) .code) count) cells (k + 1)) (t .count)
+
+-- at position 0: "a record idle at 0 .. is 11"
+abbrev pub validZero : Bool → ℕ → Standing → Bool
+validZero closed count s = not (isIdle s) && validStanding closed count s
+
+-- "position 0 of other rules is .. in a record unread"
+unfoldable pub validOverall : Bool → Table → ℕ → List Cell → Bool
+validOverall closed t count overall =
+    allBelow (λ k. not (isOverallRule t (k + 1)) || validZero closed count (overallIn overall (k + 1))) (t .count)
 
 -- nothing in the record is a cause of 11
 unfoldable pub validRun : Run → Bool
 validRun r =
     validTable (r .table)
     && validEvents (r .count) (r .events)
-    && validStandings (r .closed) (r .table .count) (r .count) (r .cells)
+    && validStandings (r .closed) (r .table) (r .count) (r .cells)
+    && validOverall (r .closed) (r .table) (r .count) (r .overall)
 
 -- the lengths that the types of the code give its arrays
 pub record Sized (r : Run) : Type 0 where
   pub rules : length (r .table .rules) ≡ mostRules
   pub events : length (r .events) ≡ mostEvents
   pub cells : length (r .cells) ≡ places
+  pub overall : length (r .overall) ≡ mostRules

@@ -1,17 +1,27 @@
 -- The call start.
-use mathlib.Core.Bool.{false}
+use mathlib.Core.Bool.{true, false}
 use mathlib.Core.List.{[]}
 use Rattle.declare.specs.declared.Table.{Table}
 use Rattle.declare.specs.Rules.{validTable}
 use Rattle.declare.specs.Slots.{eventSlots, emptyTable}
 use Rattle.declare.specs.Answers.{Answer, accepted, _>>_, require, afterCall}
-use Rattle.standings.specs.Places.{idleCells}
+use Rattle.standings.specs.Places.{idleCells, idleOverall}
+use Rattle.judge.specs.Cells.{judgedOverall}
 use Rattle.run.specs.declared.Run.{Run}
 
 -- "start copies the table and gives a run not closed, with no events, each event slot at time 0,
--- activity 1 and blank readings, each standing idle"
+-- activity 1 and blank readings, each standing idle"; that of a rule about the cycle is "judged from
+-- start on"
 unfoldable pub newRun : Table → Run
-newRun t = record { closed = false; table = t; count = 0; events = eventSlots []; cells = idleCells }
+newRun t =
+    record {
+      closed = false;
+      table = t;
+      count = 0;
+      events = eventSlots [];
+      cells = idleCells;
+      overall = judgedOverall true t (eventSlots []) 0 0 idleOverall;
+    }
 
 -- "start: 11"
 unfoldable pub startOf : Table → Answer Run

@@ -19,6 +19,7 @@ use declare::Rule;
 use declare::Standing;
 use declare::Table;
 use declare::kind::is_open;
+use judge::overall::judge_overall;
 use judge::template::decide;
 use judge::template::template_of;
 use standings::Cell;
@@ -70,9 +71,13 @@ impl Run {
             return self.refused(Refusal::WrongPhase);
         }
         let table = self.table;
+        let events = self.events;
         let cells = self.cells;
+        let overall = self.overall;
         let next = closed_cells(table, self.count, cells);
+        let zero = judge_overall(false, table, events, self.count, 0, overall);
         self.cells = next;
+        self.overall = zero;
         self.closed = true;
         Step {
             outcome: Outcome::Done,

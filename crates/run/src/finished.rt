@@ -6,7 +6,9 @@ use declare::EVENTS;
 use declare::Event;
 use declare::Table;
 use judge::cells::judge_cells;
+use judge::overall::judge_overall;
 use standings::idle_cells;
+use standings::idle_overall;
 
 impl Run {
     // The closed run of a table and the events of a whole cycle, which it does not check. Each
@@ -17,12 +19,14 @@ impl Run {
     {
         let cells = idle_cells();
         let judged = judge_cells(false, table, events, count, 0, cells);
+        let overall = judge_overall(false, table, events, count, 0, idle_overall());
         Run {
             closed: true,
             table: table,
             count: count,
             events: events,
             cells: judged,
+            overall: overall,
         }
     }
 }

@@ -3,6 +3,7 @@ ghost use mathlib.Core.Path.{_≡_};
 ghost use Rattle.run.specs.declared.Outcome.the-variants.{Refused};
 use declare::EVENTS;
 use declare::Event;
+use declare::RULES;
 use declare::Refusal;
 use declare::Standing;
 use declare::Table;
@@ -17,13 +18,15 @@ mod close; // close.rt: close
 mod finished; // finished.rt: a finished cycle, closed at once
 mod queries; // queries.rt: standing and totals
 
-// A run: its rules, the first `count` of its event slots, and the standings.
+// A run: its rules, the first `count` of its event slots, and the standings: at its events, and at
+// position 0.
 pub struct Run {
     pub closed: bool,
     pub table: Table,
     pub count: usize,
     pub events: [Event; EVENTS],
     pub cells: [Cell; PLACES],
+    pub overall: [Cell; RULES],
 }
 
 // Of start, take and close: done, or why not.

@@ -1,20 +1,33 @@
 // The calls standing and totals: what a record says, without changing it.
 ghost use mathlib.Core.Path.{_≡_};
 ghost use Rattle.run.specs.Answers.{standingAnswer, totalsAnswer};
-ghost use Rattle.run.specs.Queries.{oneOf, standingOf, totalsOf};
+ghost use Rattle.run.specs.Queries.{oneOf, isPosition, standingOf, totalsOf};
 use crate::Run;
 use crate::StandingAnswer;
 use crate::TotalsAnswer;
 use crate::record::valid_run;
 use declare::Refusal;
+use declare::Table;
+use declare::codes::is_overall_rule;
 use standings::standing_in;
 use standings::totals::totals_in;
+use standings::zero_in;
 
 // Whether k is one of 1 to n.
 fn one_of(n: usize, k: usize) -> bool
     ensures { λ r. ⌜ r ≡ oneOf n k ⌝ }
 {
     (1 <= k) & (k <= n)
+}
+
+// Whether i is a position of rule k, of n events.
+fn is_position(table: Table, n: usize, k: usize, i: usize) -> bool
+    ensures { λ r. ⌜ r ≡ isPosition table n k i ⌝ }
+{
+    if i == 0 {
+        return is_overall_rule(table, k);
+    }
+    i <= n
 }
 
 impl Run {
@@ -25,9 +38,14 @@ impl Run {
         if !valid_run(self) {
             return StandingAnswer::Refused(Refusal::InvalidRecord);
         }
-        let found = one_of(self.table.count, rule) & one_of(self.count, position);
+        let table = self.table;
+        let found = one_of(table.count, rule) & is_position(table, self.count, rule, position);
         if !found {
             return StandingAnswer::Refused(Refusal::NotFound);
+        }
+        if position == 0 {
+            let overall = self.overall;
+            return StandingAnswer::Is(zero_in(table, overall, rule));
         }
         let cells = self.cells;
         let s = standing_in(cells, rule, position);
@@ -44,8 +62,11 @@ impl Run {
         if !one_of(self.table.count, rule) {
             return TotalsAnswer::Refused(Refusal::NotFound);
         }
+        let table = self.table;
+        let overall = self.overall;
         let cells = self.cells;
-        let t = totals_in(cells, rule, self.count);
+        let zero = zero_in(table, overall, rule);
+        let t = totals_in(zero, cells, rule, self.count);
         TotalsAnswer::Are(t)
     }
 }

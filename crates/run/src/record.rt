@@ -2,11 +2,15 @@
 ghost use mathlib.Core.Path.{_≡_};
 ghost use Prim.Native.Nat.{_+_, _≤_};
 ghost use Rattle.declare.specs.Limits.{mostRules};
-ghost use Rattle.run.specs.Records.{validEvents, validStanding, validAt, validStandings, validRun};
+ghost use Rattle.run.specs.Records.{validEvents, validStanding, validAt, validStandings, validZero, validOverall, validRun};
 use crate::Run;
 use declare::EVENTS;
 use declare::Event;
+use declare::RULES;
 use declare::Standing;
+use declare::Table;
+use declare::codes::is_overall;
+use declare::codes::places_of;
 use declare::kind::is_idle;
 use limits::event::well_formed;
 use limits::table::valid_table;
@@ -63,16 +67,43 @@ fn valid_at(closed: bool, count: usize, p: usize, s: Standing) -> bool
     false
 }
 
-// Whether every cell of the first `rules` rows may stand where it does.
-fn valid_standings(closed: bool, rules: usize, count: usize, cells: [Cell; PLACES]) -> bool
-    requires { ⌜ rules ≤ mostRules ⌝ }
-    ensures { λ r. ⌜ r ≡ validStandings closed rules count cells ⌝ }
+// Whether every cell of the rules' rows may stand where it does. Most are idle: those are passed
+// over.
+fn valid_standings(closed: bool, table: Table, count: usize, cells: [Cell; PLACES]) -> bool
+    requires { ⌜ table .count ≤ mostRules ⌝ }
+    ensures { λ r. ⌜ r ≡ validStandings closed table count cells ⌝ }
 {
-    let end = rules * EVENTS;
+    let end = table.count * EVENTS;
     for j in 0..end {
         let c = cells[j];
         let s = c.standing;
-        if !valid_at(closed, count, j % EVENTS, s) {
+        if is_idle(s) {
+            continue;
+        }
+        let rule = table.rules[j / EVENTS];
+        if !valid_at(closed, places_of(rule.code, count), j % EVENTS, s) {
+            return false;
+        }
+    }
+    true
+}
+
+// Whether s may stand at position 0, under a rule about the cycle.
+fn valid_zero(closed: bool, count: usize, s: Standing) -> bool
+    ensures { λ r. ⌜ r ≡ validZero closed count s ⌝ }
+{
+    !is_idle(s) & valid_standing(closed, count, s)
+}
+
+// Whether this holds of every such rule; position 0 of other rules is not read.
+fn valid_overall(closed: bool, table: Table, count: usize, overall: [Cell; RULES]) -> bool
+    requires { ⌜ table .count ≤ mostRules ⌝ }
+    ensures { λ r. ⌜ r ≡ validOverall closed table count overall ⌝ }
+{
+    for k in 0..table.count {
+        let rule = table.rules[k];
+        let c = overall[k];
+        if is_overall(rule.code) & !valid_zero(closed, count, c.standing) {
             return false;
         }
     }
@@ -92,5 +123,9 @@ pub fn valid_run(run: Run) -> bool
     if !valid_events(run.count, events) {
         return false;
     }
-    valid_standings(run.closed, table.count, run.count, cells)
+    if !valid_standings(run.closed, table, run.count, cells) {
+        return false;
+    }
+    let overall = run.overall;
+    valid_overall(run.closed, table, run.count, overall)
 }

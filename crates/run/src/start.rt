@@ -10,20 +10,25 @@ use declare::Refusal;
 use declare::Table;
 use declare::slots::empty_slot;
 use declare::slots::empty_table;
+use judge::overall::judge_overall;
 use limits::table::valid_table;
 use standings::idle_cells;
+use standings::idle_overall;
 
 // The run that has taken nothing yet.
 pub fn new_run(table: Table) -> Run
     ensures { λ r. ⌜ r ≡ newRun table ⌝ }
 {
     let slot = empty_slot();
+    let events = [slot; EVENTS];
+    let overall = judge_overall(true, table, events, 0, 0, idle_overall());
     Run {
         closed: false,
         table: table,
         count: 0,
-        events: [slot; EVENTS],
+        events: events,
         cells: idle_cells(),
+        overall: overall,
     }
 }
 

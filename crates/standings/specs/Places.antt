@@ -4,10 +4,12 @@ use mathlib.Core.List.{List}
 use Prim.Native.Nat.{ℕ, zero, suc, _+_, _-_, _*_, _/_, _%_}
 use lib.Dec.{ltb}
 use lib.ListN.{getD, replicate}
+use Rattle.declare.specs.declared.Table.{Table}
 use Rattle.declare.specs.declared.Standing.{Standing}
 use Rattle.declare.specs.declared.Standing.the-variants.{Idle}
 use Rattle.declare.specs.Lists.{mapFrom}
 use Rattle.declare.specs.Limits.{mostRules, mostEvents}
+use Rattle.declare.specs.Rules.{isOverallRule}
 use Rattle.standings.specs.declared.Cell.{Cell}
 
 -- 16 rules of 256 positions
@@ -40,6 +42,10 @@ idleOverall = replicate mostRules idleCell
 
 unfoldable pub overallIn : List Cell → ℕ → Standing
 overallIn cells rule = getD cells (rule - 1) idleCell .standing
+
+-- under other rules it is idle, whatever their cells say
+unfoldable pub zeroIn : Table → List Cell → ℕ → Standing
+zeroIn t cells rule = cond (isOverallRule t rule) (overallIn cells rule) Idle
 
 -- the standings of a rule: at position 0, and from position 1 on
 unfoldable pub withZero : Standing → (ℕ → Standing) → ℕ → Standing

@@ -1,10 +1,12 @@
 // The store of a run's standings: sixteen rows, one a rule, of 256 cells, one a position, in one
 // flat array.
 ghost use mathlib.Core.Path.{_≡_};
-ghost use Rattle.standings.specs.Places.{idleCells, idleOverall, standingIn, overallIn};
+ghost use Rattle.standings.specs.Places.{idleCells, idleOverall, standingIn, zeroIn};
 use crate::place::row_start;
 use declare::RULES;
 use declare::Standing;
+use declare::Table;
+use declare::codes::is_overall_rule;
 use declare::numbers::less_one;
 
 mod place; // place.rt: where the rows begin
@@ -50,12 +52,12 @@ pub fn standing_in(cells: [Cell; PLACES], rule: usize, position: usize) -> Stand
     c.standing
 }
 
-// The standing of a rule at position 0. Past the cells it is idle.
-pub fn overall_in(cells: [Cell; RULES], rule: usize) -> Standing
-    ensures { λ r. ⌜ r ≡ overallIn cells rule ⌝ }
+// The standing of a rule at position 0: that of its cell, if it is about the cycle as such.
+pub fn zero_in(table: Table, cells: [Cell; RULES], rule: usize) -> Standing
+    ensures { λ r. ⌜ r ≡ zeroIn table cells rule ⌝ }
 {
     let k = less_one(rule);
-    if RULES <= k {
+    if !is_overall_rule(table, rule) | (RULES <= k) {
         return Standing::Idle;
     }
     let c = cells[k];

@@ -1,8 +1,6 @@
--- `rule::rule_of`: the first refusal, or the rule.
-use mathlib.Core.Path.{sym, _∙_, ap}
-use borrow.Author.Tests.{not-true, not-false}
-use Rattle.declare.specs.Refusals.{numberOf}
-use Rattle.declare.specs.Answers.{_>>=_, _>>_, require}
+-- `rule::rule_of`: the first refusal, or the rule as it is checked.
+use mathlib.Core.Path.{ap}
+use Rattle.declare.specs.Answers.{_>>=_}
 use Rattle.rule_text.specs.Reads.{conditionRead, headRead, ruleRead, ruleBy}
 use borrow.Author.Needs.{needs}
 use Rattle.rule_text.proofs.rule.rule_of.Statement.{statement}
@@ -15,7 +13,7 @@ enum-known-head-2 : tie.Need-enum-known-head-2
 enum-known-head-2 c = search needs
 
 returns : tie.Need-returns
-unfolding ruleRead ruleBy headRead conditionRead _>>=_ _>>_ require numberOf
+unfolding ruleRead ruleBy headRead conditionRead _>>=_
 returns c = rw (ap headRead (c .before .head2 .given .1))
 
 enum-known-condition : tie.Need-enum-known-condition
@@ -25,7 +23,7 @@ enum-known-condition-2 : tie.Need-enum-known-condition-2
 enum-known-condition-2 c = search needs
 
 returns-2 : tie.Need-returns-2
-unfolding ruleRead ruleBy headRead conditionRead _>>=_ _>>_ require numberOf
+unfolding ruleRead ruleBy headRead conditionRead _>>=_
 returns-2 c = rw (ap headRead (c .before .before .before .before .head .given .1), ap conditionRead (c .before .condition2 .given .1))
 
 enum-known-correlation : tie.Need-enum-known-correlation
@@ -35,19 +33,15 @@ enum-known-correlation-2 : tie.Need-enum-known-correlation-2
 enum-known-correlation-2 c = search needs
 
 returns-3 : tie.Need-returns-3
-unfolding ruleRead ruleBy headRead conditionRead _>>=_ _>>_ require numberOf
+unfolding ruleRead ruleBy headRead conditionRead _>>=_
 returns-3 c = rw (ap headRead (c .before .before .before .before .before .before .before .head .given .1), ap conditionRead (c .before .before .before .before .condition .given .1), ap conditionRead (c .before .correlation2 .given .1))
 
-is-above-requires : tie.Need-is-above-requires
-is-above-requires c κs = search needs
+checked-rule-requires : tie.Need-checked-rule-requires
+checked-rule-requires c κs = search needs
 
 returns-4 : tie.Need-returns-4
-unfolding ruleRead ruleBy headRead conditionRead _>>=_ _>>_ require numberOf
-returns-4 c = rw (ap headRead (c .before .before .before .before .before .before .before .before .before .before .head .given .1), ap conditionRead (c .before .before .before .before .before .before .before .condition .given .1), ap conditionRead (c .before .before .before .before .correlation .given .1), sym (c .before .is-above .ensures) ∙ not-true _ (c .if1 .taken))
-
-returns-5 : tie.Need-returns-5
-unfolding ruleRead ruleBy headRead conditionRead _>>=_ _>>_ require numberOf
-returns-5 c = rw (ap headRead (c .before .before .before .before .before .before .before .before .before .before .head .given .1), ap conditionRead (c .before .before .before .before .before .before .before .condition .given .1), ap conditionRead (c .before .before .before .before .correlation .given .1), sym (c .before .is-above .ensures) ∙ not-false _ (c .if1 .left))
+unfolding ruleBy headRead conditionRead _>>=_
+returns-4 c = rw (ap headRead (c .before .before .before .before .before .before .before .before .before .head .given .1), ap conditionRead (c .before .before .before .before .before .before .condition .given .1), ap conditionRead (c .before .before .before .correlation .given .1)) (c .checked-rule .ensures)
 
 pub rule-of-spec : {M : Type 1} → statement M
 rule-of-spec =
@@ -62,6 +56,5 @@ rule-of-spec =
     enum-known-correlation
     enum-known-correlation-2
     returns-3
-    is-above-requires
-    returns-4
-    returns-5)
+    checked-rule-requires
+    returns-4)
