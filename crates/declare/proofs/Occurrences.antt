@@ -5,18 +5,18 @@
 -- window allows: two, because the first event of a cycle opens the window. That turns the formula,
 -- if it is not settled; else nothing does.
 use mathlib.Core.Path.{_≡_, refl, sym, _∙_, ap, ap₂}
-use mathlib.Core.Bool.{Bool, true, false, not, cond, _&&_, _||_, and-false, true≢false, false≢true}
+use mathlib.Core.Bool.{Bool, true, false, not, _&&_, _||_, and-false, true≢false, false≢true}
 use mathlib.Core.List.{List, [], _∷_, _++_, append-assoc, map}
-use Prim.Native.Nat.{ℕ, zero, suc, _+_, _-_, max, min, _≤_, _<_, zero-le}
+use Prim.Native.Nat.{ℕ, zero, suc, _+_, _-_, _≤_, _<_, zero-le}
 use native.Mathlib.Omega.{arith}
 use borrow.Author.Tests.{leb-true, le-leb, eqb-true, eq-eqb, not-true}
 use lib.Dec.{leb, eqb}
 use lib.ListN.{length, getD, length-append}
-use Rattle.declare.specs.Types.{Event, Reference, Constant, Activation, Comparison, Condition, Test, Window, Rule, Overall, Existence, Absence, Choice, ExclusiveChoice, Standing}
+use Rattle.declare.specs.Types.{Event, Reference, Constant, Activation, Comparison, Condition, Test, Rule, Overall, Existence, Absence, Choice, ExclusiveChoice}
 use Rattle.declare.specs.Lists.{all, found, firstUpTo}
 use Rattle.declare.specs.Comparisons.{referenceOf, testOf, passes}
 use Rattle.declare.specs.Conditions.{comparisonsOf, testsOf, met}
-use Rattle.declare.specs.Events.{latest, isActivity, readingsInRange, wellFormed, nonFallingFrom, nonFalling, lastFrom, lastTime, noEvent, eventAt, firstTime, emptySlot}
+use Rattle.declare.specs.Events.{latest, isActivity, wellFormed, nonFallingFrom, nonFalling, lastTime, noEvent, eventAt, firstTime, emptySlot}
 use Rattle.declare.specs.Overall.{isOverall, overallOf, countsTarget, formula, settled}
 use Rattle.declare.specs.Rules.{isReading, validReference, validComparison, validCondition, fitsTemplate, validRule}
 use Rattle.declare.specs.Suits.{occurs, within, between}
@@ -28,9 +28,9 @@ use Rattle.declare.proofs.Booleans.{and-left, and-right, and₂, and₃
 use Rattle.declare.proofs.Positions.{first-same, first-stays, first-cut, Earliest, earliest}
 use Rattle.declare.proofs.Satisfiability.{sound, complete, bringing, bringing-time, bringing-activity, bringing-in-range}
 use Rattle.declare.proofs.Zero.{eligible-zero, decision-zero, undecided-zero}
-use Rattle.declare.proofs.Extension.{event-same, event-added, occurs-same, start-first, position-last}
+use Rattle.declare.proofs.Extension.{event-added, occurs-same, start-first, position-last}
 use Rattle.declare.proofs.Targets.{named, target-stays, target-cut}
-use Rattle.declare.proofs.Arrival.{well-formed-parts, continuation-parts, room, ValidRule, rule-parts, valid-comparisons, tests-named}
+use Rattle.declare.proofs.Arrival.{well-formed-parts, continuation-parts, room, rule-parts, valid-comparisons, tests-named}
 
 -- ---- an activation condition names no reading of another event
 

@@ -11,7 +11,7 @@ use native.Mathlib.Omega.{arith}
 use borrow.Author.Tests.{eqb-true, eqb-false, lt-ltb, ltb-true}
 use lib.Dec.{eqb, leb, ltb}
 use lib.ListN.{length, length-append}
-use Rattle.declare.specs.Types.{Event, Rule, Polarity, Positive, Negative, Standing, Idle, Open, Fulfilled, Violated}
+use Rattle.declare.specs.Types.{Event, Rule, Standing, Idle, Open, Fulfilled, Violated}
 use Rattle.declare.specs.Lists.{all}
 use Rattle.declare.specs.Events.{wellFormed, nonFallingFrom, nonFalling, lastFrom, lastTime}
 use Rattle.declare.specs.Rules.{validRule}

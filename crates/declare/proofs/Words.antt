@@ -1,6 +1,6 @@
 -- The definitions compute what document 01's sentences say.
 use mathlib.Core.Path.{_≡_, refl, sym, subst, _∙_, ap}
-use mathlib.Core.Logic.{_↔_, _⊎_, ⊎-elim, inl, inr}
+use mathlib.Core.Logic.{_↔_, _⊎_}
 use mathlib.Core.Bool.{Bool, true, false, not, cond, _&&_, _||_, true≢false, false≢true}
 use mathlib.Core.List.{List, [], _∷_, _++_}
 use Prim.Native.Nat.{ℕ, zero, suc, _+_, _-_, _≤_, _<_}
@@ -20,7 +20,7 @@ use Rattle.declare.specs.Suits.{occurs, activationAt, beforeEnd, within,
 use Rattle.declare.specs.Templates.{templates, templateOf, inReach, reachOf, polarityOf}
 use Rattle.declare.specs.Verdicts.{occursAt, fitsAt, eligible, target, decided, seen, formulaOf, fulfilledIf, decision, verdict}
 use Rattle.declare.specs.Continuations.{horizon, continuation}
-use Rattle.declare.specs.Reachability.{satisfiable, canCome, undecided, standing}
+use Rattle.declare.specs.Reachability.{satisfiable, canCome, standing}
 use Rattle.declare.specs.Standings.{isFulfilled, isViolated}
 use Rattle.declare.specs.Words.{NeverFall, Before, Suits, NoActivationBetween, Eligible, Twelve, SomeEligible, NoneEligible, MayName, targetIn, unnamed, Unmoved, Judged, Occurs, SomeOccurs, Four, Satisfiable, Words}
 use Rattle.declare.proofs.Booleans.{and-left, and-right, and₂, both, not-says, and-says, or-says}
@@ -28,7 +28,7 @@ use Rattle.declare.proofs.Extension.{first-time, non-falling-parts}
 use Rattle.declare.proofs.Satisfiability.{sound, complete, bringing, bringing-in-range}
 use Rattle.declare.proofs.Targets.{named, only-named}
 use Rattle.declare.proofs.Zero.{activation-zero, eligible-zero, eligible-event, decision-zero, decision-event, undecided-event, active-event}
-use Rattle.declare.proofs.Occurrences.{occurs-parts, seen-some, seen-none, seen-at, or-false}
+use Rattle.declare.proofs.Occurrences.{occurs-parts, seen-some, seen-at}
 use Rattle.declare.proofs.Exactness.{verdict-is}
 
 -- ---- times

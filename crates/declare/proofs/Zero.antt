@@ -1,15 +1,13 @@
 -- The definitions that have a case for position 0: what they say there, and at an event.
 use mathlib.Core.Path.{_≡_, refl, sym, _∙_}
-use mathlib.Core.Bool.{Bool, true, false, not, cond, _&&_, true≢false}
+use mathlib.Core.Bool.{true, false, not, _&&_, true≢false}
 use mathlib.Core.List.{List}
-use Prim.Native.Nat.{ℕ, zero, suc, _≤_, _<_}
+use Prim.Native.Nat.{ℕ, zero, suc, _≤_}
 use native.Mathlib.Omega.{arith}
 use borrow.Author.Tests.{ne-eqb, lt-leb}
-use lib.Dec.{leb, eqb}
-use lib.ListN.{length}
-use Rattle.declare.specs.Types.{Event, Rule, Standing}
+use lib.Dec.{eqb}
+use Rattle.declare.specs.Types.{Event, Rule}
 use Rattle.declare.specs.Events.{eventAt}
-use Rattle.declare.specs.Limits.{lastTemplate}
 use Rattle.declare.specs.Overall.{isOverall}
 use Rattle.declare.specs.Suits.{isActivation, activationAt, suits}
 use Rattle.declare.specs.Templates.{inReach, reachOf, polarityOf}

@@ -2,7 +2,7 @@
 use mathlib.Core.List.{List, [], _∷_}
 use Prim.Native.Nat.{ℕ}
 use lib.IntN.{pos}
-use Rattle.declare.specs.Types.{Event, Less, Greater, Constant, Condition, End, Never, At, Rule, Idle, Open, Fulfilled, Violated}
+use Rattle.declare.specs.Types.{Less, Greater, Constant, Condition, End, Never, At, Rule, Idle, Open, Fulfilled, Violated}
 use Rattle.declare.specs.Verdicts.{verdict}
 use Rattle.declare.specs.Steps.{closed}
 use Rattle.declare.specs.EdgeCycles.{Case, _is_, always, when, window, event, reads, live}

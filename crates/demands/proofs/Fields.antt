@@ -18,13 +18,17 @@ use Rattle.declare.specs.declared.Operator.the-variants.{Equal, NotEqual, Less,
 use Rattle.declare.specs.declared.Reference.the-variants.{Constant, Activation}
 use Rattle.declare.specs.declared.Comparison.{Comparison}
 use Rattle.declare.specs.declared.Operand.the-variants.{Exact}
+use Rattle.declare.specs.declared.Rule.{Rule}
 use Rattle.declare.specs.declared.Refusal.{Refusal}
 use Rattle.declare.specs.declared.Refusal.the-variants.{NumberForm, OutOfRange, ComparisonForm, ReadingTwice, EmptyWindow}
 use Rattle.declare.specs.Lists.{any}
-use Rattle.declare.specs.Rules.{noCondition}
+use Rattle.declare.specs.Rules.{fitsTemplate, noCondition}
 use Rattle.declare.specs.Events.{least, greatest, inRange}
+use Rattle.declare.specs.Overall.{isOverall, overallOf, countsTarget}
 use Rattle.declare.specs.Refusals.{numberOf}
+use Rattle.declare.proofs.Booleans.{fails}
 use Rattle.declare.proofs.Lists.{ltb-not}
+use Rattle.declare.proofs.Words.{of-overall}
 use Rattle.number.specs.declared.Fault.the-variants.{Form, Range}
 use Rattle.number.specs.declared.NaturalAnswer.the-variants.{Natural, NoNatural}
 use Rattle.number.specs.declared.IntegerAnswer.{IntegerAnswer}
@@ -39,7 +43,7 @@ use Rattle.rule_text.specs.Conditions.{comma, tested, comparisonsAfter, conditi
 use Rattle.rule_text.specs.Rules.{endField, isAbove}
 use Rattle.rule_text.proofs.Comparisons.{digit-low}
 use Rattle.demands.specs.Causes.{Cause, cause}
-use Rattle.demands.specs.LineCauses.{numberCauses, unlessDash, readingCauses, isOperator, activationForm, referenceForm, constantIn, comparisonForm, comparisonCauses, conditionCauses}
+use Rattle.demands.specs.LineCauses.{numberCauses, unlessDash, readingCauses, isOperator, activationForm, referenceForm, constantIn, comparisonForm, comparisonCauses, conditionCauses, mismatch}
 use Rattle.demands.proofs.Chains.{Has, checked, inOrder, has-none, has-one, has-unless, has-then}
 
 -- no number begins with `@`
@@ -118,6 +122,31 @@ has-above a b field x later e h = go (dash field) e
         let v = through (numberField 1 4294967295 field) (λ v. accepted (At v)) b e in
         let q : At (valueOf field) ≡ b = sym (ap At (number-value 1 4294967295 field (v .value) (v .first))) ∙ of-of (v .rest) in
         rw (← q, ltb-not a (valueOf field)) (has-unless (leb (valueOf field) a) EmptyWindow 6 x later refl h)
+
+-- ---- the template
+
+-- the target activity counts "under 15 or 16"
+counts-under : (code : ℕ) → (isOverall code && countsTarget (overallOf code)) ≡ (eqb code 15 || eqb code 16)
+unfolding isOverall overallOf
+counts-under code = go (isOverall code) refl
+  where
+    go : (t : Bool) → isOverall code ≡ t → (t && countsTarget (overallOf code)) ≡ (eqb code 15 || eqb code 16)
+    go true o = of-overall (λ k. countsTarget (overallOf k) ≡ (eqb k 15 || eqb k 16)) refl refl refl refl code o
+    go false o =
+        rw (fails (eqb code 15) (λ e. ap isOverall (eqb-true code 15 e)) o, fails (eqb code 16) (λ e. ap isOverall (eqb-true code 16 e)) o)
+
+-- of a rule whose correlation is empty if and only if the field is `-`
+pub fits-unless : (r : Rule) (field : List ℕ) → eqb (r .correlation .count) 0 ≡ dash field → fitsTemplate r ≡ not (mismatch (r .code) (r .activation) (r .target) field)
+unfolding fitsTemplate mismatch
+fits-unless r field e = rw (e, ← counts-under (r .code)) (go (isOverall (r .code)) (countsTarget (overallOf (r .code))) (eqb (r .activation) (r .target)) (dash field))
+  where
+    go : (overall counts equal empty : Bool) → (not overall || (empty && not (counts && equal))) ≡ not (((overall && counts) && equal) || (overall && not empty))
+    go false counts equal empty = refl
+    go true true true empty = and-false empty
+    go true true false true = refl
+    go true true false false = refl
+    go true false equal true = refl
+    go true false equal false = refl
 
 -- ---- comparisons
 

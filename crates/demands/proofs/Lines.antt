@@ -10,9 +10,10 @@ use Rattle.declare.specs.declared.Event.{Event}
 use Rattle.declare.specs.declared.End.{End}
 use Rattle.declare.specs.declared.Rule.{Rule}
 use Rattle.declare.specs.declared.Refusal.{Refusal}
-use Rattle.declare.specs.declared.Refusal.the-variants.{FieldCount, EmptyWindow, TimeFalls, TooMany}
+use Rattle.declare.specs.declared.Refusal.the-variants.{FieldCount, EmptyWindow, TimeFalls, TooMany, TemplateMismatch}
 use Rattle.declare.specs.Lists.{all, any}
 use Rattle.declare.specs.Events.{lastTime}
+use Rattle.declare.specs.Rules.{fitsTemplate}
 use Rattle.declare.specs.Refusals.{numberOf}
 use Rattle.declare.proofs.Booleans.{all-append}
 use Rattle.declare.proofs.Lists.{leb-not, ltb-not}
@@ -21,13 +22,14 @@ use Rattle.line.specs.Fields.{split}
 use Rattle.declare.specs.Answers.{Answer, accepted, _>>=_, _>>_, require}
 use Rattle.line.specs.Values.{numberField, readingField}
 use Rattle.rule_text.specs.Conditions.{comma, conditionField}
-use Rattle.rule_text.specs.Rules.{endField, isAbove, ruleOf, inTable, ruleAfter}
+use Rattle.rule_text.specs.Rules.{endField, isAbove, checkedRule, ruleOf, inTable, ruleAfter}
+use Rattle.rule_text.proofs.ConditionTexts.{condition-read}
 use Rattle.cycle_text.specs.Cycle.{eventOf, inOrder as placed, eventAfter}
 use Rattle.cycle_text.proofs.RoundTrips.{event-read}
 use Rattle.demands.specs.Causes.{Cause, cause}
-use Rattle.demands.specs.LineCauses.{inTurn, numberCauses, unlessDash, readingCauses, comparisonCauses, conditionCauses, eventFieldCauses, eventPlaceCauses, eventCauses, ruleFieldCauses, rulePlaceCauses, ruleCauses}
+use Rattle.demands.specs.LineCauses.{inTurn, numberCauses, unlessDash, readingCauses, comparisonCauses, conditionCauses, eventFieldCauses, eventPlaceCauses, eventCauses, mismatch, ruleFieldCauses, rulePlaceCauses, ruleCauses}
 use Rattle.demands.proofs.Chains.{Has, inOrder, has-none, has-one, has-unless, has-then}
-use Rattle.demands.proofs.Fields.{has-number, number-value, has-reading, has-until, has-above, has-condition}
+use Rattle.demands.proofs.Fields.{has-number, number-value, has-reading, has-until, has-above, fits-unless, has-condition}
 
 turn-append : (first later : List (List Cause)) → inTurn (first ++ later) ≡ inTurn first ++ inTurn later
 unfolding inTurn
@@ -82,23 +84,29 @@ has-event above fields =
 
 -- ---- a rule line
 
-has-window : {A : Type 0} (a : ℕ) (b : End) (fields : List (List ℕ)) (x : A) → numberField 0 4294967295 (getD fields 3 []) ≡ accepted a → endField (getD fields 4 []) ≡ accepted b → Has (require (isAbove b a) 6 >> accepted x) (inTurn (unlessDash (getD fields 4 []) (cause EmptyWindow (leb (valueOf (getD fields 4 [])) (valueOf (getD fields 3 []))) ∷ []) ∷ []))
+has-window : {A : Type 0} (a : ℕ) (b : End) (fields : List (List ℕ)) (x : Answer A) (later : List (List Cause)) → numberField 0 4294967295 (getD fields 3 []) ≡ accepted a → endField (getD fields 4 []) ≡ accepted b → Has x (inTurn later) → Has (require (isAbove b a) 6 >> x) (inTurn (unlessDash (getD fields 4 []) (cause EmptyWindow (leb (valueOf (getD fields 4 [])) (valueOf (getD fields 3 []))) ∷ []) ∷ later))
 unfolding inTurn
-has-window a b fields x p q =
-    rw (← number-value 0 4294967295 (getD fields 3 []) a p) (has-above a b (getD fields 4 []) (accepted x) [] q (has-none x))
+has-window a b fields x later p q h =
+    rw (← number-value 0 4294967295 (getD fields 3 []) a p) (has-above a b (getD fields 4 []) x (inTurn later) q h)
+
+has-fit : (fields : List (List ℕ)) (r : Rule) → numberField 1 16 (getD fields 0 []) ≡ accepted (r .code) → numberField 1 64 (getD fields 1 []) ≡ accepted (r .activation) → numberField 1 64 (getD fields 2 []) ≡ accepted (r .target) → conditionField true (getD fields 6 []) ≡ accepted (r .correlation) → Has (require (fitsTemplate r) 16 >> accepted r) (inTurn ((cause TemplateMismatch (mismatch (valueOf (getD fields 0 [])) (valueOf (getD fields 1 [])) (valueOf (getD fields 2 [])) (getD fields 6 [])) ∷ []) ∷ []))
+unfolding numberOf
+has-fit fields r c k t n =
+    rw (← number-value 1 16 (getD fields 0 []) (r .code) c, ← number-value 1 64 (getD fields 1 []) (r .activation) k, ← number-value 1 64 (getD fields 2 []) (r .target) t, fits-unless r (getD fields 6 []) (condition-read true (getD fields 6 []) (r .correlation) n .empty))
+    (has-last (mismatch (r .code) (r .activation) (r .target) (getD fields 6 [])) TemplateMismatch 16 (accepted r) [] refl (has-of r))
 
 has-rule-of : (fields : List (List ℕ)) → Has (ruleOf fields) (inTurn (ruleFieldCauses fields))
-unfolding ruleOf numberOf
+unfolding ruleOf checkedRule numberOf
 has-rule-of fields =
     has-check (eqb (length fields) 7) FieldCount 1 _ _ refl
-    (has-next (numberField 1 12 (getD fields 0 [])) _ _ _ (has-number 1 12 (getD fields 0 []))
-    (λ c _. has-next (numberField 1 64 (getD fields 1 [])) _ _ _ (has-number 1 64 (getD fields 1 []))
-    (λ k _. has-next (numberField 1 64 (getD fields 2 [])) _ _ _ (has-number 1 64 (getD fields 2 []))
-    (λ t _. has-next (numberField 0 4294967295 (getD fields 3 [])) _ _ _ (has-number 0 4294967295 (getD fields 3 []))
+    (has-next (numberField 1 16 (getD fields 0 [])) _ _ _ (has-number 1 16 (getD fields 0 []))
+    (λ code c. has-next (numberField 1 64 (getD fields 1 [])) _ _ _ (has-number 1 64 (getD fields 1 []))
+    (λ activation k. has-next (numberField 1 64 (getD fields 2 [])) _ _ _ (has-number 1 64 (getD fields 2 []))
+    (λ target t. has-next (numberField 0 4294967295 (getD fields 3 [])) _ _ _ (has-number 0 4294967295 (getD fields 3 []))
     (λ a p. has-next (endField (getD fields 4 [])) _ _ _ (has-until (getD fields 4 []))
     (λ b q. has-next (conditionField false (getD fields 5 [])) _ _ _ (has-condition false (getD fields 5 []))
-    (λ m _. has-next (conditionField true (getD fields 6 [])) _ _ _ (has-condition true (getD fields 6 []))
-    (λ n _. has-window a b fields _ p q))))))))
+    (λ condition _. has-next (conditionField true (getD fields 6 [])) _ _ _ (has-condition true (getD fields 6 []))
+    (λ correlation n. has-window a b fields _ _ p q (has-fit fields _ c k t n)))))))))
 
 has-room : (above : List Rule) (r : Rule) → Has (inTable above r) (inTurn (rulePlaceCauses above))
 unfolding inTable numberOf
@@ -177,15 +185,15 @@ event-numbered above fields =
     reading = reading-numbered ns refl refl
 
 abbrev pub ruleNumbers : List ℕ
-ruleNumbers = 1 ∷ 2 ∷ 3 ∷ 4 ∷ 5 ∷ 6 ∷ 8 ∷ 12 ∷ []
+ruleNumbers = 1 ∷ 2 ∷ 3 ∷ 4 ∷ 5 ∷ 6 ∷ 8 ∷ 12 ∷ 16 ∷ []
 
 pub rule-numbered : (above : List Rule) (fields : List (List ℕ)) → all (numbered ruleNumbers) (ruleCauses above fields) ≡ true
 unfolding ruleCauses any numberOf
 rule-numbered above fields =
-    one-next ns FieldCount _ _ refl (group-next ns _ _ (number 1 12 (getD fields 0 [])) (group-next ns _ _ (number 1 64 (getD fields 1 [])) (group-next ns _ _ (number 1 64 (getD fields 2 []))
+    one-next ns FieldCount _ _ refl (group-next ns _ _ (number 1 16 (getD fields 0 [])) (group-next ns _ _ (number 1 64 (getD fields 1 [])) (group-next ns _ _ (number 1 64 (getD fields 2 []))
     (group-next ns _ _ (number 0 4294967295 (getD fields 3 [])) (group-next ns _ _ (dash-numbered ns (getD fields 4 []) _ (number 1 4294967295 (getD fields 4 [])))
     (group-next ns _ _ (condition false (getD fields 5 [])) (group-next ns _ _ (condition true (getD fields 6 []))
-    (group-next ns _ _ (dash-numbered ns (getD fields 4 []) _ (one-numbered ns EmptyWindow _ refl)) (one-next ns TooMany _ _ refl (none-next ns))))))))))
+    (group-next ns _ _ (dash-numbered ns (getD fields 4 []) _ (one-numbered ns EmptyWindow _ refl)) (one-next ns TemplateMismatch _ _ refl (one-next ns TooMany _ _ refl (none-next ns)))))))))))
   where
     ns : List ℕ
     ns = ruleNumbers

@@ -1,4 +1,4 @@
--- Demand 1: whoever calls "gets a result or one of" the fifteen numbers of document 01's table as
+-- Demand 1: whoever calls "gets a result or one of" the sixteen numbers of document 01's table as
 -- the cards of document 02 change it, "each only for its listed cause"; and "a refusal alters
 -- neither run nor tally nor any lent buffer".
 --
@@ -141,6 +141,6 @@ pub record Demand1 : Type 0 where
       → writeAnswer answer ≡ refused n
       → after ≡ before
   -- the texts, with the numbers that their readers can give
-  pub rules-text : (text : List ℕ) → Reads ruleCauses rulesTextOf (1 ∷ 2 ∷ 3 ∷ 4 ∷ 5 ∷ 6 ∷ 8 ∷ 12 ∷ []) text
+  pub rules-text : (text : List ℕ) → Reads ruleCauses rulesTextOf (1 ∷ 2 ∷ 3 ∷ 4 ∷ 5 ∷ 6 ∷ 8 ∷ 12 ∷ 16 ∷ []) text
   pub cycle-text : (text : List ℕ) → Reads eventCauses cycleTextOf (1 ∷ 2 ∷ 3 ∷ 7 ∷ 8 ∷ 12 ∷ []) text
   pub notebook : (rules cycle : List ℕ) → ReadsBoth rules cycle

@@ -1,6 +1,6 @@
 -- The causes for which a line of a text is refused, in document 01's order: "12, 1, then field by
--- field 2 or 4, 3, 5 (in a condition comparison by comparison), then 6 or 7, then 8". Each is a
--- test of the line's own bytes and of the records above it.
+-- field 2 or 4, 3, 5 (in a condition comparison by comparison), then 6 or 7, then 8"; 16 "follows
+-- 6" (document 02). Each is a test of the line's own bytes and of the records above it.
 use mathlib.Core.Bool.{Bool, true, false, not, cond, _&&_, _||_}
 use mathlib.Core.List.{List, [], _∷_, _++_}
 use Prim.Native.Nat.{ℕ}
@@ -9,10 +9,11 @@ use lib.ListN.{length, getD, drop}
 use Rattle.declare.specs.declared.Event.{Event}
 use Rattle.declare.specs.declared.Rule.{Rule}
 use Rattle.declare.specs.declared.Operand.the-variants.{Exact}
-use Rattle.declare.specs.declared.Refusal.the-variants.{FieldCount, NumberForm, OutOfRange, ComparisonForm, ReadingTwice, EmptyWindow, TimeFalls, TooMany}
+use Rattle.declare.specs.declared.Refusal.the-variants.{FieldCount, NumberForm, OutOfRange, ComparisonForm, ReadingTwice, EmptyWindow, TimeFalls, TooMany, TemplateMismatch}
 use Rattle.declare.specs.Lists.{any}
 use Rattle.declare.specs.Limits.{lastActivity, lastTemplate, mostRules, mostEvents}
 use Rattle.declare.specs.Events.{latest, inRange, lastTime}
+use Rattle.declare.specs.Overall.{isOverall}
 use Rattle.number.specs.Number.{naturalForm, integerForm, dash, valueOf, integerValue}
 use Rattle.line.specs.Fields.{split}
 use Rattle.rule_text.specs.Comparisons.{readingDigit}
@@ -102,6 +103,11 @@ eventPlaceCauses above time =
 unfoldable pub eventCauses : List Event → List (List ℕ) → List Cause
 eventCauses above fields = inTurn (eventFieldCauses fields ++ eventPlaceCauses above (valueOf (getD fields 0 [])))
 
+-- "equal activities under 15 or 16, or a correlation under 13 to 16": its field is not `-`
+unfoldable pub mismatch : ℕ → ℕ → ℕ → List ℕ → Bool
+mismatch code activation target correlation =
+    ((eqb code 15 || eqb code 16) && eqb activation target) || (isOverall code && not (dash correlation))
+
 -- "a rule line: code, activation activity, target activity, a, b, activation condition, correlation
 -- condition"; "b not above a" is 6
 abbrev pub ruleFieldCauses : List (List ℕ) → List (List Cause)
@@ -115,6 +121,7 @@ ruleFieldCauses fields =
     ∷ conditionCauses false (getD fields 5 [])
     ∷ conditionCauses true (getD fields 6 [])
     ∷ unlessDash (getD fields 4 []) (cause EmptyWindow (leb (valueOf (getD fields 4 [])) (valueOf (getD fields 3 []))) ∷ [])
+    ∷ (cause TemplateMismatch (mismatch (valueOf (getD fields 0 [])) (valueOf (getD fields 1 [])) (valueOf (getD fields 2 [])) (getD fields 6 [])) ∷ [])
     ∷ []
 
 -- "17th rule"

@@ -1,8 +1,7 @@
 // All standings of a run at its events.
 ghost use mathlib.Core.Path.{_≡_};
-ghost use Prim.Native.Nat.{_+_, _≤_};
+ghost use Prim.Native.Nat.{_+_};
 ghost use lib.ListN.{length};
-ghost use Rattle.declare.specs.Limits.{mostEvents};
 ghost use Rattle.declare.specs.Steps.{carried};
 ghost use Rattle.judge.specs.Cells.{judged, judgedCells};
 ghost use Rattle.judge.specs.Columns.{eventsIn};

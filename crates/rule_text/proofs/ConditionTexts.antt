@@ -1,10 +1,10 @@
 -- A condition that is written reads back with the same comparisons; one that was read is written as
--- the same bytes, is within its limits, and has noComparison in the slots that are not in use. By
--- the laws of one comparison, comparison by comparison.
+-- the same bytes, is within its limits, has noComparison in the slots that are not in use, and is
+-- empty if and only if its field is `-`. By the laws of one comparison, comparison by comparison.
 use mathlib.Core.Path.{_≡_, refl, sym, _∙_, ap}
 use mathlib.Core.Bool.{Bool, true, false, not, cond, _&&_, and-false}
 use mathlib.Core.List.{List, [], _∷_, _++_, map, append-nil, append-assoc}
-use Prim.Native.Nat.{ℕ, _+_, _≤_, _<_}
+use Prim.Native.Nat.{ℕ, suc, _+_, _≤_, _<_}
 use native.Mathlib.Omega.{arith}
 use borrow.Author.Tests.{ne-eqb, le-leb, not-true}
 use lib.Dec.{leb, eqb}
@@ -155,6 +155,7 @@ pub record ConditionRead (correlation : Bool) (field : List ℕ) (c : Condition)
   pub text : conditionText c ≡ field
   pub valid : validCondition correlation c ≡ true
   pub is-canonical : canonicalCondition c ≡ c
+  pub empty : eqb (c .count) 0 ≡ dash field
 
 -- a split has a first part, so that there is some comparison
 list-text : (cs : List Comparison) (field : List ℕ) → map comparisonText cs ≡ split comma field → comparisonsText cs ≡ field
@@ -166,20 +167,26 @@ few-counted : (cs : List Comparison) → length cs ≤ 4 → leb (conditionOf cs
 unfolding conditionOf
 few-counted cs h = le-leb (length cs) 4 h
 
-list-read : (correlation : Bool) (cs : List Comparison) (field : List ℕ) → ComparisonsRead correlation [] (split comma field) cs → ConditionRead correlation field (conditionOf cs)
+some-counted : (cs : List Comparison) (field : List ℕ) → map comparisonText cs ≡ split comma field → eqb (conditionOf cs .count) 0 ≡ false
+unfolding conditionOf
+some-counted [] field e = absurd (omega (arith, ap length (e ∙ parts comma field)))
+some-counted (c ∷ cs) field e = ne-eqb (suc (length cs)) 0 (λ z. omega arith)
+
+list-read : (correlation : Bool) (cs : List Comparison) (field : List ℕ) → dash field ≡ false → ComparisonsRead correlation [] (split comma field) cs → ConditionRead correlation field (conditionOf cs)
 unfolding conditionText validCondition canonicalCondition
-list-read correlation cs field w =
+list-read correlation cs field p w =
     let few = at-most-four cs (w .distinct) in
     let same = comparisons-slots cs few in
     record {
       text = ap comparisonsText same ∙ list-text cs field (w .text);
       valid = both₃ (few-counted cs few) (rw same (w .valid)) (rw same (w .distinct .once));
       is-canonical = ap conditionOf same;
+      empty = some-counted cs field (w .text) ∙ sym p;
     }
 
 none-read : (correlation : Bool) (field : List ℕ) → dash field ≡ true → ConditionRead correlation field noCondition
 unfolding conditionText comparisonsText validCondition canonicalCondition noCondition comparisonsOf conditionOf all noneTwice
-none-read correlation field p = record { text = dash-text field p; valid = refl; is-canonical = refl }
+none-read correlation field p = record { text = dash-text field p; valid = refl; is-canonical = refl; empty = sym p }
 
 pub condition-read : (correlation : Bool) (field : List ℕ) (c : Condition) → conditionField correlation field ≡ accepted c → ConditionRead correlation field c
 unfolding conditionField comparisonsField all
@@ -189,4 +196,4 @@ condition-read correlation field c h = go (dash field) refl h
     go true p q = rw (← of-of q) (none-read correlation field p)
     go false p q =
         let w = through (comparisonsAfter correlation [] (split comma field)) (λ cs. accepted (conditionOf cs)) c q in
-        rw (← of-of (w .rest)) (list-read correlation (w .value) field (comparisons-read correlation [] (split comma field) (w .value) refl distinct-none (w .first)))
+        rw (← of-of (w .rest)) (list-read correlation (w .value) field p (comparisons-read correlation [] (split comma field) (w .value) refl distinct-none (w .first)))

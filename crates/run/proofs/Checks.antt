@@ -2,16 +2,21 @@
 use mathlib.Core.Path.{_≡_, refl, sym, ap, _∙_}
 use mathlib.Core.Bool.{Bool, true, false, _&&_}
 use mathlib.Core.List.{List}
-use Prim.Native.Nat.{ℕ, _+_, _*_, _/_, _%_, _<_}
+use Prim.Native.Nat.{ℕ, _+_, _-_, _*_, _/_, _%_, _<_}
+use native.Mathlib.Omega.{arith}
+use borrow.Author.Tests.{le-leb}
 use native.Mathlib.Numerals.{add-one}
 use lib.Dec.{leb}
 use lib.ListN.{length, getD, take}
 use lib.Seq.{take-suc}
 use Rattle.declare.specs.declared.Event.{Event}
+use Rattle.declare.specs.declared.Table.{Table}
+use Rattle.declare.specs.Overall.{isOverall, placesOf}
+use Rattle.declare.specs.Rules.{noRule, ruleAt, isOverallRule}
 use Rattle.declare.specs.Lists.{all, allBelow}
 use Rattle.declare.specs.Events.{wellFormed, nonFallingFrom, nonFalling, lastFrom, lastTime, noEvent}
 use Rattle.standings.specs.declared.Cell.{Cell}
-use Rattle.standings.specs.Places.{idleCell, standingIn}
+use Rattle.standings.specs.Places.{idleCell, standingIn, overallIn}
 use Rattle.standings.proofs.Same.{standing-at}
 use Rattle.run.specs.Records.{validAt, validRow, validStandings}
 use Rattle.declare.proofs.Lists.{all-more, all-same, all-rows, falls-more, last-more}
@@ -47,12 +52,32 @@ followed-again {events} {n} f h e =
 
 -- ---- rows
 
-pub flat-standings : (closed : Bool) (rules count : ℕ) (cells : List Cell) → allBelow (λ j. validAt closed count (j % 256 + 1) ((getD cells j idleCell) .standing)) (rules * 256) ≡ validStandings closed rules count cells
-unfolding validStandings validRow
-flat-standings closed rules count cells =
-    all-same (λ j. validAt closed count (j % 256 + 1) ((getD cells j idleCell) .standing)) (λ j. at (j / 256) (j % 256)) (rules * 256)
-    (λ j l. ap (validAt closed count (j % 256 + 1)) (sym (standing-at cells j)))
-    ∙ all-rows at rules
+-- the cell at place j may stand there
+abbrev pub validCell : Bool → Table → ℕ → List Cell → ℕ → Bool
+validCell closed t count cells j =
+    validAt closed (placesOf (getD (t .rules) (j / 256) noRule .code) count) (j % 256 + 1) (getD cells j idleCell .standing)
+
+pub flat-standings : (closed : Bool) (t : Table) (count : ℕ) (cells : List Cell) → allBelow (validCell closed t count cells) (t .count * 256) ≡ validStandings closed t count cells
+unfolding validStandings validRow ruleAt
+flat-standings closed t count cells =
+    all-same (validCell closed t count cells) (λ j. at (j / 256) (j % 256)) (t .count * 256)
+    (λ j l.
+    let n : j / 256 + 1 - 1 ≡ j / 256 = omega arith in
+    rw (n, standing-at cells j) refl)
+    ∙ all-rows at (t .count)
   where
     at : ℕ → ℕ → Bool
-    at k p = validAt closed count (p + 1) (standingIn cells (k + 1) (p + 1))
+    at k p = validAt closed (placesOf (ruleAt t (k + 1) .code) count) (p + 1) (standingIn cells (k + 1) (p + 1))
+
+-- position 0 of rule k + 1
+pub zero-check : (t : Table) (k : ℕ) → k < t .count → isOverallRule t (k + 1) ≡ isOverall (getD (t .rules) k noRule .code)
+unfolding isOverallRule ruleAt
+zero-check t k l =
+    let n : k + 1 - 1 ≡ k = omega arith in
+    rw (le-leb (k + 1) (t .count) (omega arith), n) refl
+
+pub zero-cell : (overall : List Cell) (k : ℕ) → overallIn overall (k + 1) ≡ getD overall k idleCell .standing
+unfolding overallIn
+zero-cell overall k =
+    let n : k + 1 - 1 ≡ k = omega arith in
+    ap (λ (i : ℕ). getD overall i idleCell .standing) n

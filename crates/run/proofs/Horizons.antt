@@ -1,5 +1,5 @@
 -- The last taken time of a run, before and after one event more.
-use mathlib.Core.Path.{_≡_, sym, ap, _∙_}
+use mathlib.Core.Path.{_≡_, sym, ap, ap₂, _∙_}
 use mathlib.Core.Bool.{true, false}
 use mathlib.Core.List.{List, [], _∷_, _++_}
 use Prim.Native.Nat.{ℕ, suc, _+_, _-_, _≤_, _<_, zero-le}
@@ -13,7 +13,7 @@ use Rattle.declare.specs.declared.Event.{Event}
 use Rattle.declare.specs.Events.{lastFrom, lastTime, noEvent}
 use Rattle.declare.specs.Continuations.{horizon}
 use Rattle.standings.specs.declared.Cell.{Cell}
-use Rattle.judge.specs.Cells.{judgedCells}
+use Rattle.judge.specs.Cells.{judgedCells, judgedOverall}
 use Rattle.run.specs.declared.Run.{Run}
 use Rattle.run.specs.Records.{eventsOf, horizonOf, withStandings}
 use Rattle.run.specs.Take.{appended, judgedRun}
@@ -52,9 +52,8 @@ module _ (r : Run) (e : Event) where
     horizon-appended = ap lastTime events-appended ∙ last-more (eventsOf r) e
 
     -- judged with the event's time as the horizon
-    pub judged-appended : {cells : List Cell} → cells ≡ judgedCells true (r .table) (set (r .events) (r .count) e) (r .count + 1) (e .time) (r .cells) → withStandings (appended r e) cells ≡ judgedRun (appended r e)
+    pub judged-appended : {cells overall : List Cell} → cells ≡ judgedCells true (r .table) (set (r .events) (r .count) e) (r .count + 1) (e .time) (r .cells) → overall ≡ judgedOverall true (r .table) (set (r .events) (r .count) e) (r .count + 1) (e .time) (r .overall) → withStandings (appended r e) cells overall ≡ judgedRun (appended r e)
     unfolding judgedRun appended
-    judged-appended h = ap (withStandings (appended r e)) (h ∙ ap judged (sym horizon-appended))
-      where
-        judged : ℕ → List Cell
-        judged h = judgedCells true (r .table) (set (r .events) (r .count) e) (r .count + 1) h (r .cells)
+    judged-appended g h =
+        ap₂ (withStandings (appended r e)) (g ∙ ap (λ (t : ℕ). judgedCells true (r .table) (set (r .events) (r .count) e) (r .count + 1) t (r .cells)) (sym horizon-appended))
+        (h ∙ ap (λ (t : ℕ). judgedOverall true (r .table) (set (r .events) (r .count) e) (r .count + 1) t (r .overall)) (sym horizon-appended))

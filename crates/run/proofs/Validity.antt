@@ -4,15 +4,15 @@
 -- standing names no position past the events, a carried one none past those before, and past the
 -- count every cell stays idle; closing names position 0 or what was named.
 use mathlib.Core.Path.{_≡_, refl, sym, ap, subst, _∙_}
-use mathlib.Core.Bool.{Bool, true, false, not, cond, false≢true}
+use mathlib.Core.Bool.{Bool, true, false, not, cond, _&&_, _||_, true≢false, false≢true}
 use mathlib.Core.List.{List, [], _∷_}
 use Prim.Native.Nat.{ℕ, zero, suc, _+_, _≤_, _<_, zero-le}
 use native.Mathlib.Omega.{arith}
-use borrow.Author.Tests.{le-leb, lt-leb, leb-true, leb-false, ltb-true}
-use lib.Dec.{leb}
+use borrow.Author.Tests.{le-leb, lt-leb, leb-true, leb-false, ltb-true, not-true}
+use lib.Dec.{leb, eqb}
 use lib.ListN.{length, take, set, length-set}
 use lib.Seq.{length-take-le}
-use Rattle.declare.specs.Standings.{isIdle}
+use Rattle.declare.specs.Standings.{isIdle, isDecided}
 use Rattle.declare.specs.declared.Event.{Event}
 use Rattle.declare.specs.declared.Rule.{Rule}
 use Rattle.declare.specs.declared.Table.{Table}
@@ -23,31 +23,37 @@ use Rattle.declare.specs.declared.Standing.the-variants.{Idle, Open, Fulfilled,
 use Rattle.declare.specs.Lists.{all}
 use Rattle.declare.specs.Limits.{mostRules, mostEvents}
 use Rattle.declare.specs.Events.{wellFormed, nonFallingFrom, nonFalling}
+use Rattle.declare.specs.Overall.{isOverall, placesOf}
 use Rattle.declare.specs.Rules.{ruleAt, rulesOf, validTable}
 use Rattle.declare.specs.Slots.{eventSlots, tableOf, emptyTable}
-use Rattle.declare.specs.Suits.{activationAt}
+use Rattle.declare.specs.Suits.{isActivation, activationAt}
 use Rattle.declare.specs.Templates.{polarityOf}
-use Rattle.declare.specs.Verdicts.{target, decided}
+use Rattle.declare.specs.Verdicts.{target, decided, formulaOf, fulfilledIf, decision}
 use Rattle.declare.specs.Continuations.{horizon}
 use Rattle.declare.specs.Reachability.{undecided, standing}
 use Rattle.declare.specs.Answers.{isAccepted, afterCall}
 use Rattle.declare.specs.Steps.{carried, closing, closed, admits}
-use Rattle.declare.proofs.Booleans.{both, both₃, and₃}
+use Rattle.declare.proofs.Booleans.{both, both₃, and₂, and₃}
+use Rattle.declare.proofs.Zero.{activation-zero, activation-event, closing-zero, closing-event}
 use Rattle.declare.proofs.Targets.{target-within}
+use Rattle.declare.proofs.Exactness.{decision-decided, standing-active, idle-elsewhere}
+use Rattle.declare.proofs.Carried.{only-idle}
+use Rattle.declare.proofs.Tables.{rules-within}
 use Rattle.declare.proofs.Lists.{all-parts, falls-more}
 use Rattle.declare.proofs.Answers.{required, of-of, after-cases}
-use Rattle.declare.proofs.Steps.{admitted}
-use Rattle.standings.specs.Places.{places, idleCells, standingIn}
-use Rattle.standings.proofs.Changes.{idle-everywhere}
+use Rattle.declare.proofs.Steps.{admitted, closed-decided}
 use Rattle.run.specs.declared.Run.{Run}
-use Rattle.run.specs.Records.{eventsOf, horizonOf, standingAt, validEvents, validStanding, validAt, validRun, Sized}
+use Rattle.run.specs.Records.{eventsOf, horizonOf, standingAt, validEvents, validStanding, validAt, validZero, validRun, Sized}
 use Rattle.run.specs.Start.{newRun, startOf, started}
 use Rattle.run.specs.Take.{appended, judgedRun, takeOf}
 use Rattle.run.specs.Close.{closedRun, closeOf}
-use Rattle.run.proofs.Bounds.{valid-parts}
+use Rattle.run.proofs.Bounds.{Valid, valid-parts}
 use Rattle.run.proofs.Horizons.{events-appended}
 use Rattle.run.proofs.Guards.{take-cases, close-cases}
-use Rattle.run.proofs.Places.{judged-standing, judged-past, closed-standing, closed-past, standings-each, each-standings}
+use Rattle.run.proofs.Places.{start-idle, start-zero, judged-standing, judged-past, closed-standing, closed-past, validHere, standings-each, each-standings}
+
+pub both₄ : {a b c d : Bool} → a ≡ true → b ≡ true → c ≡ true → d ≡ true → (a && b && c && d) ≡ true
+both₄ p q r s = rw (p, q, r, s)
 
 -- ---- standings
 
@@ -58,14 +64,27 @@ decided-valid over n Positive (suc j) l = le-leb (suc j) n l
 decided-valid over n Negative zero l = le-leb 0 n l
 decided-valid over n Negative (suc j) l = le-leb (suc j) n l
 
+-- a decision names none of the events to come
+decision-valid : (over : Bool) (r : Rule) (es : List Event) (i : ℕ) → validStanding over (length es) (decision r es i) ≡ true
+unfolding decision
+decision-valid over r es i = go (eqb i 0)
+  where
+    by-formula : (t : Bool) (j : ℕ) → j ≤ length es → validStanding over (length es) (fulfilledIf t j) ≡ true
+    by-formula true j l = le-leb j (length es) l
+    by-formula false j l = le-leb j (length es) l
+
+    go : (z : Bool) → validStanding over (length es) (cond z (fulfilledIf (formulaOf r es) (target r es i)) (decided (polarityOf r) (target r es i))) ≡ true
+    go true = by-formula (formulaOf r es) (target r es i) (target-within r es i)
+    go false = decided-valid over (length es) (polarityOf r) (target r es i) (target-within r es i)
+
 standing-valid : (over : Bool) (r : Rule) (es : List Event) (h i : ℕ) → over ≡ false → validStanding over (length es) (standing r es h i) ≡ true
 unfolding standing
 standing-valid over r es h i e = go (activationAt r es i) (undecided r es h i)
   where
-    go : (a o : Bool) → validStanding over (length es) (cond a (cond o Open (decided (polarityOf r) (target r es i))) Idle) ≡ true
+    go : (a o : Bool) → validStanding over (length es) (cond a (cond o Open (decision r es i)) Idle) ≡ true
     go false o = refl
     go true true = ap not e
-    go true false = decided-valid over (length es) (polarityOf r) (target r es i) (target-within r es i)
+    go true false = decision-valid over r es i
 
 carried-valid : (over : Bool) (m n : ℕ) (old new : Standing) → m ≤ n → validStanding over m old ≡ true → validStanding over n new ≡ true → validStanding over n (carried old new) ≡ true
 unfolding carried
@@ -74,16 +93,20 @@ carried-valid over m n Open new l a b = b
 carried-valid over m n (Fulfilled j) new l a b = let h = leb-true j m a in le-leb j n (omega arith)
 carried-valid over m n (Violated j) new l a b = let h = leb-true j m a in le-leb j n (omega arith)
 
-closed-valid : (over : Bool) (n : ℕ) (r : Rule) (es : List Event) (i : ℕ) (s : Standing) → validStanding over n s ≡ true → validStanding true n (closed r es i s) ≡ true
-unfolding closed closing
-closed-valid over n r es i Idle v = refl
-closed-valid over n r es i Open v = decided-valid true n (polarityOf r) 0 zero-le
-closed-valid over n r es i (Fulfilled j) v = v
-closed-valid over n r es i (Violated j) v = v
+closing-valid : (r : Rule) (es : List Event) (i : ℕ) → validStanding true (length es) (closing r es i) ≡ true
+closing-valid r es zero = rw (closing-zero r es) (decision-valid true r es 0)
+closing-valid r es (suc i) = rw (closing-event r es (suc i) (omega arith)) (decided-valid true (length es) (polarityOf r) 0 zero-le)
 
--- ---- at a position
+closed-valid : (over : Bool) (r : Rule) (es : List Event) (i : ℕ) (s : Standing) → validStanding over (length es) s ≡ true → validStanding true (length es) (closed r es i s) ≡ true
+unfolding closed
+closed-valid over r es i Idle v = refl
+closed-valid over r es i Open v = closing-valid r es i
+closed-valid over r es i (Fulfilled j) v = v
+closed-valid over r es i (Violated j) v = v
 
-idle-valid : (over : Bool) (n : ℕ) (s : Standing) → isIdle s ≡ true → validStanding over n s ≡ true
+-- ---- at a position from 1 on
+
+pub idle-valid : (over : Bool) (n : ℕ) (s : Standing) → isIdle s ≡ true → validStanding over n s ≡ true
 idle-valid over n Idle h = refl
 idle-valid over n Open h = absurd (false≢true h)
 idle-valid over n (Fulfilled j) h = absurd (false≢true h)
@@ -118,6 +141,119 @@ pub past-valid : (over : Bool) (n i : ℕ) (s : Standing) → n < i → isIdle s
 unfolding validAt
 past-valid over n i s l h = rw (lt-leb i n l) h
 
+-- ---- at position 0
+
+-- what is not idle may stand at 0 if it is valid
+pub zero-valid : (over : Bool) (n : ℕ) (s : Standing) → isIdle s ≡ false → validStanding over n s ≡ true → validZero over n s ≡ true
+zero-valid over n s a b = both (ap not a) b
+
+pub not-idle : (over : Bool) (n : ℕ) (s : Standing) → validZero over n s ≡ true → (isIdle s ≡ false) × (validStanding over n s ≡ true)
+not-idle over n s h = let p : (not (isIdle s) ≡ true) × (validStanding over n s ≡ true) = and₂ h in (not-true (isIdle s) (p .0), p .1)
+
+-- a code of the twelve
+pub few-code : (code : ℕ) → code ≤ 12 → isOverall code ≡ false
+unfolding isOverall
+few-code code l = rw (lt-leb 13 code (omega arith)) refl
+
+-- ---- at any position
+
+module _ (r : Rule) where
+  places-none : isOverall (r .code) ≡ true → (n : ℕ) → placesOf (r .code) n ≡ 0
+  unfolding placesOf
+  places-none o n = rw o
+
+  places-all : isOverall (r .code) ≡ false → (n : ℕ) → placesOf (r .code) n ≡ n
+  unfolding placesOf
+  places-all o n = rw o
+
+  -- a rule about the cycle is not idle at 0, and is idle at events
+  pub here-judged : (over : Bool) (n : ℕ) (s : Standing) → isOverall (r .code) ≡ true → validHere over r n 0 s ≡ true → validZero over n s ≡ true
+  here-judged over n s o h = rw o at h
+
+  pub here-idle : (over : Bool) (n i : ℕ) (s : Standing) → isOverall (r .code) ≡ true → validHere over r n (suc i) s ≡ true → isIdle s ≡ true
+  here-idle over n i s o h = at-idle over 0 (suc i) s (omega arith) (rw (places-none o n) at h)
+
+  -- any other as at its position
+  pub here-event : (over : Bool) (n i : ℕ) (s : Standing) → isOverall (r .code) ≡ false → validHere over r n (suc i) s ≡ validAt over n (suc i) s
+  here-event over n i s o = rw (places-all o n) refl
+
+  pub idle-here : (over : Bool) (n i : ℕ) (s : Standing) → isIdle s ≡ true → validHere over r n (suc i) s ≡ true
+  idle-here over n i s h = idle-anywhere over (placesOf (r .code) n) (suc i) s h
+
+  pub zero-here : (over : Bool) (n : ℕ) (s : Standing) → (isOverall (r .code) ≡ true → validZero over n s ≡ true) → validHere over r n 0 s ≡ true
+  zero-here over n s f = go (isOverall (r .code)) refl
+    where
+      go : (o : Bool) → isOverall (r .code) ≡ o → (not o || validZero over n s) ≡ true
+      go true q = f q
+      go false q = refl
+
+  decided-active : (s : Standing) → isDecided s ≡ true → isIdle s ≡ false
+  decided-active Idle d = absurd (false≢true d)
+  decided-active Open d = refl
+  decided-active (Fulfilled j) d = refl
+  decided-active (Violated j) d = refl
+
+  -- ---- closed
+
+  module _ (es : List Event) where
+    closed-active : (s : Standing) → isIdle s ≡ false → isIdle (closed r es 0 s) ≡ false
+    unfolding closed
+    closed-active Idle h = absurd (true≢false h)
+    closed-active Open h = ap isIdle (closing-zero r es) ∙ decided-active (decision r es 0) (decision-decided r es 0)
+    closed-active (Fulfilled j) h = refl
+    closed-active (Violated j) h = refl
+
+    closed-here : (over : Bool) (i : ℕ) (s : Standing) → i ≤ length es → validHere over r (length es) i s ≡ true → validHere true r (length es) i (closed r es i s) ≡ true
+    closed-here over zero s l h =
+        zero-here true (length es) (closed r es 0 s)
+        (λ o. let p = not-idle over (length es) s (here-judged over (length es) s o h) in
+        zero-valid true (length es) (closed r es 0 s) (closed-active s (p .0)) (closed-valid over r es 0 s (p .1)))
+    closed-here over (suc i) s l h = go (isOverall (r .code)) refl
+      where
+        go : (o : Bool) → isOverall (r .code) ≡ o → validHere true r (length es) (suc i) (closed r es (suc i) s) ≡ true
+        go true q =
+            let e : s ≡ Idle = only-idle s (here-idle over (length es) i s q h) in
+            idle-here true (length es) i (closed r es (suc i) s) (ap (λ (u : Standing). isIdle (closed r es (suc i) u)) e ∙ ap isIdle (closed-decided r es (suc i) Idle refl))
+        go false q =
+            here-event true (length es) i (closed r es (suc i) s) q
+            ∙ taken-valid true (length es) (suc i) (closed r es (suc i) s) l (closed-valid over r es (suc i) s (at-valid over (length es) (suc i) s (sym (here-event over (length es) i s q) ∙ h)))
+
+    -- ---- judged, of m events before
+
+    carried-active : (old new : Standing) → isIdle new ≡ false → isIdle (carried old new) ≡ false
+    unfolding carried
+    carried-active Idle new h = h
+    carried-active Open new h = h
+    carried-active (Fulfilled j) new h = refl
+    carried-active (Violated j) new h = refl
+
+    judged-here : (over : Bool) (m h i : ℕ) (s : Standing) → over ≡ false → m ≤ length es → i ≤ length es → validHere over r m i s ≡ true → validHere over r (length es) i (carried s (standing r es h i)) ≡ true
+    judged-here over m h zero s runs l d v =
+        zero-here over (length es) (carried s (standing r es h 0))
+        (λ o. let p = not-idle over m s (here-judged over m s o v) in
+        let on : not (isIdle (standing r es h 0)) ≡ true = standing-active r es 0 h ∙ activation-zero r es ∙ o in
+        zero-valid over (length es) (carried s (standing r es h 0)) (carried-active s (standing r es h 0) (not-true _ on)) (carried-valid over m (length es) s (standing r es h 0) l (p .1) (standing-valid over r es h 0 runs)))
+    judged-here over m h (suc i) s runs l d v = go (isOverall (r .code)) refl
+      where
+        go : (o : Bool) → isOverall (r .code) ≡ o → validHere over r (length es) (suc i) (carried s (standing r es h (suc i))) ≡ true
+        go true q =
+            let e : s ≡ Idle = only-idle s (here-idle over m i s q v) in
+            let none : activationAt r es (suc i) ≡ false = activation-event r es (suc i) (omega arith) ∙ unfold isActivation in rw q refl in
+            let stays : standing r es h (suc i) ≡ Idle = idle-elsewhere r es h (suc i) .1 none in
+            idle-here over (length es) i (carried s (standing r es h (suc i))) (rw (e, stays) (unfold carried in refl))
+        go false q =
+            here-event over (length es) i (carried s (standing r es h (suc i))) q
+            ∙ taken-valid over (length es) (suc i) (carried s (standing r es h (suc i))) d (carried-valid over m (length es) s (standing r es h (suc i)) l (at-valid over m (suc i) s (sym (here-event over m i s q) ∙ v)) (standing-valid over r es h (suc i) runs))
+
+  -- past the events, with more of them
+  past-here : (over next : Bool) (m n i : ℕ) (s : Standing) → m < i → n < i → validHere over r m i s ≡ true → validHere next r n i s ≡ true
+  past-here over next m n zero s a b v = absurd (omega arith)
+  past-here over next m n (suc i) s a b v = go (isOverall (r .code)) refl
+    where
+      go : (o : Bool) → isOverall (r .code) ≡ o → validHere next r n (suc i) s ≡ true
+      go true q = idle-here next n i s (here-idle over m i s q v)
+      go false q = idle-here next n i s (at-idle over m (suc i) s a (sym (here-event over m i s q) ∙ v))
+
 -- ---- start
 
 no-events : (slots : List Event) → validEvents 0 slots ≡ true
@@ -127,9 +263,14 @@ no-events slots = refl
 pub start-valid : (t : Table) → validTable t ≡ true → validRun (newRun t) ≡ true
 unfolding newRun validRun
 start-valid t v =
-    both₃ v (no-events (eventSlots []))
-    (each-standings false (t .count) 0 idleCells
-    (λ k i a b c d. past-valid false 0 i (standingIn idleCells k i) c (ap isIdle (idle-everywhere places k i))))
+    let p = each-standings false (newRun t) here in
+    both₄ v (no-events (eventSlots [])) (p .0) (p .1)
+  where
+    here : (k i : ℕ) → 1 ≤ k → k ≤ t .count → i ≤ 256 → validHere false (ruleAt t k) 0 i (standingAt (newRun t) k i) ≡ true
+    here k zero a b d =
+        rw (start-zero t k a b (omega (arith, rules-within t v)))
+        (unfold carried in judged-here (ruleAt t k) [] false 0 0 0 Open refl zero-le zero-le (zero-here (ruleAt t k) false 0 Open (λ o. refl)))
+    here k (suc i) a b d = idle-here (ruleAt t k) false 0 i (standingAt (newRun t) k (suc i)) (ap isIdle (start-idle t k (suc i) (omega arith)))
 
 -- what holds of the run for a valid table, and for the empty one, holds beside start's answer
 started-cases : (P : Run → Type 0) (t : Table) → P (newRun emptyTable) → (validTable t ≡ true → P (newRun t)) → P (started t)
@@ -148,71 +289,70 @@ started-valid t = started-cases (λ s. validRun s ≡ true) t (start-valid empty
 -- ---- close, and take
 
 module _ (r : Run) (size : Sized r) (valid : validRun r ≡ true) where
+  abbrev v : Valid r
+  v = valid-parts r valid
+
   -- at position i of rule k
-  module _ (k i : ℕ) (k-low : 1 ≤ k) (k-high : k ≤ r .table .count) (i-low : 1 ≤ i) (i-high : i ≤ mostEvents) where
+  module _ (k i : ℕ) (k-low : 1 ≤ k) (k-high : k ≤ r .table .count) (i-high : i ≤ mostEvents) where
+    rule : Rule
+    rule = ruleAt (r .table) k
+
     s : Standing
     s = standingAt r k i
 
-    old : validAt (r .closed) (r .count) i s ≡ true
-    old = unfold s in standings-each (r .closed) (r .table .count) (r .count) (r .cells) (valid-parts r valid .standings) k i k-low k-high i-low i-high
-
-    old-valid : validStanding (r .closed) (r .count) s ≡ true
-    old-valid = at-valid (r .closed) (r .count) i s old
-
-    old-idle : r .count < i → isIdle s ≡ true
-    old-idle l = at-idle (r .closed) (r .count) i s l old
+    old : validHere (r .closed) rule (r .count) i s ≡ true
+    unfolding rule s
+    old = standings-each (r .closed) r (v .standings) (v .overall) k i k-low k-high i-high
 
     row : k ≤ mostRules
-    row = omega (arith, valid-parts r valid .rules-fit)
+    row = omega (arith, v .rules-fit)
 
-    closed-at : validAt true (r .count) i (standingAt (closedRun r) k i) ≡ true
-    unfolding s
+    long : length (eventsOf r) ≡ r .count
+    unfolding eventsOf
+    long = length-take-le (r .count) (r .events) (omega (arith, size .events, v .events-fit))
+
+    closed-at : validHere true rule (r .count) i (standingAt (closedRun r) k i) ≡ true
+    unfolding rule s
     closed-at = go (leb i (r .count)) refl
       where
-        go : (t : Bool) → leb i (r .count) ≡ t → validAt true (r .count) i (standingAt (closedRun r) k i) ≡ true
+        go : (t : Bool) → leb i (r .count) ≡ t → validHere true rule (r .count) i (standingAt (closedRun r) k i) ≡ true
         go true q =
             let l : i ≤ r .count = leb-true i (r .count) q in
-            rw (closed-standing r (size .cells) k i k-low row i-low i-high k-high l)
-            (taken-valid true (r .count) i (closed (ruleAt (r .table) k) (eventsOf r) i s) l (closed-valid (r .closed) (r .count) (ruleAt (r .table) k) (eventsOf r) i s old-valid))
+            rw (closed-standing r size k k-low row i k-high l i-high)
+            (ap (λ (n : ℕ). validHere true rule n i (closed rule (eventsOf r) i s)) (sym long)
+            ∙ closed-here rule (eventsOf r) (r .closed) i s (omega (arith, long)) (ap (λ (n : ℕ). validHere (r .closed) rule n i s) long ∙ old))
         go false q =
             let l : r .count < i = leb-false i (r .count) q in
-            rw (closed-past r (size .cells) k i k-low row i-low i-high l) (past-valid true (r .count) i s l (old-idle l))
+            rw (closed-past r size k k-low row i l i-high) (past-here rule (r .closed) true (r .count) (r .count) i s l l old)
 
     -- with an event more
-    judged-at : (e : Event) → r .closed ≡ false → r .count < mostEvents → validAt (r .closed) (r .count + 1) i (standingAt (judgedRun (appended r e)) k i) ≡ true
-    unfolding s appended
+    judged-at : (e : Event) → r .closed ≡ false → r .count < mostEvents → validHere (r .closed) rule (r .count + 1) i (standingAt (judgedRun (appended r e)) k i) ≡ true
+    unfolding rule s appended
     judged-at e runs room = go (leb i (r .count + 1)) refl
       where
         next : Run
         next = appended r e
 
-        new : Standing
-        new = standing (ruleAt (r .table) k) (eventsOf next) (horizonOf next) i
+        next-size : Sized next
+        next-size = record { rules = size .rules; events = length-set (r .events) (r .count) e ∙ size .events; cells = size .cells; overall = size .overall }
 
         longer : length (eventsOf next) ≡ r .count + 1
         longer = unfold eventsOf in length-take-le (r .count + 1) (set (r .events) (r .count) e) (simp length-set (omega (arith, size .events)))
 
-        new-valid : validStanding (r .closed) (r .count + 1) new ≡ true
-        new-valid =
-            ap (λ (n : ℕ). validStanding (r .closed) n new) (sym longer)
-            ∙ standing-valid (r .closed) (ruleAt (r .table) k) (eventsOf next) (horizonOf next) i runs
-
-        go : (t : Bool) → leb i (r .count + 1) ≡ t → validAt (r .closed) (r .count + 1) i (standingAt (judgedRun next) k i) ≡ true
+        go : (t : Bool) → leb i (r .count + 1) ≡ t → validHere (r .closed) rule (r .count + 1) i (standingAt (judgedRun next) k i) ≡ true
         go true q =
             let l : i ≤ r .count + 1 = leb-true i (r .count + 1) q in
-            rw (judged-standing next (size .cells) k i k-low row i-low i-high k-high l)
-            (taken-valid (r .closed) (r .count + 1) i (carried s new) l
-            (carried-valid (r .closed) (r .count) (r .count + 1) s new (omega arith) old-valid new-valid))
+            rw (judged-standing next next-size k k-low row i k-high l i-high)
+            (ap (λ (n : ℕ). validHere (r .closed) rule n i (carried s (standing rule (eventsOf next) (horizonOf next) i))) (sym longer)
+            ∙ judged-here rule (eventsOf next) (r .closed) (r .count) (horizonOf next) i s runs (omega (arith, longer)) (omega (arith, longer)) old)
         go false q =
             let l : r .count + 1 < i = leb-false i (r .count + 1) q in
-            rw (judged-past next (size .cells) k i k-low row i-low i-high l)
-            (past-valid (r .closed) (r .count + 1) i s l (old-idle (omega arith)))
+            rw (judged-past next next-size k k-low row i l i-high) (past-here rule (r .closed) (r .closed) (r .count) (r .count + 1) i s (omega arith) l old)
 
   pub closed-run-valid : validRun (closedRun r) ≡ true
-  unfolding closedRun validRun
   closed-run-valid =
-      let v = valid-parts r valid in
-      both₃ (v .table) (v .events) (each-standings true (r .table .count) (r .count) (closedRun r .cells) closed-at)
+      let p = each-standings true (closedRun r) (λ k i a b d. unfold closedRun rule in closed-at k i a b d) in
+      unfold closedRun validRun in both₄ (v .table) (v .events) (p .0) (p .1)
 
   pub close-valid : validRun (afterCall r (closeOf r)) ≡ true
   close-valid = close-cases (λ s. validRun s ≡ true) r valid closed-run-valid
@@ -222,7 +362,7 @@ module _ (r : Run) (size : Sized r) (valid : validRun r ≡ true) where
     unfolding validEvents eventsOf appended horizon
     events-valid well follows room =
         let es : List Event = take (r .count) (r .events) in
-        let v : (leb (r .count) mostEvents ≡ true) × (all wellFormed es ≡ true) × (nonFalling es ≡ true) = and₃ (valid-parts r valid .events) in
+        let v : (leb (r .count) mostEvents ≡ true) × (all wellFormed es ≡ true) × (nonFalling es ≡ true) = and₃ (v .events) in
         let n = size .events in
         rw (events-appended r e (omega arith))
         (both₃ (le-leb (r .count + 1) mostEvents (omega arith)) (all-parts wellFormed es (e ∷ []) ∙ both (v .1) (unfold all in both well refl))
@@ -233,9 +373,8 @@ module _ (r : Run) (size : Sized r) (valid : validRun r ≡ true) where
     taken-run-valid runs a =
         let p = admitted (r .count) (horizonOf r) e a in
         let room : r .count < mostEvents = ltb-true (r .count) mostEvents (p .2) in
-        both₃ (valid-parts r valid .table) (events-valid (p .0) (p .1) room)
-        (each-standings (r .closed) (r .table .count) (r .count + 1) (judgedRun (appended r e) .cells)
-        (λ k i a b c d. judged-at k i a b c d e runs room))
+        let q = each-standings (r .closed) (judgedRun (appended r e)) (λ k i a b d. unfold rule in judged-at k i a b d e runs room) in
+        both₄ (v .table) (events-valid (p .0) (p .1) room) (q .0) (q .1)
 
     pub take-valid : validRun (afterCall r (takeOf r e)) ≡ true
     take-valid = take-cases (λ s. validRun s ≡ true) r e valid taken-run-valid

@@ -2,15 +2,16 @@
 -- of each, and a change of all cells changes the cell of each rule and position as it should.
 use mathlib.Core.Path.{_≡_, refl, sym, ap, _∙_}
 use mathlib.Core.Logic.{⊎-elim, inl, inr}
-use mathlib.Core.Bool.{Bool, true, false, not, _&&_, and-false}
+use mathlib.Core.Bool.{Bool, true, false, not, true≢false}
 use mathlib.Core.List.{List}
-use Prim.Native.Nat.{ℕ, _+_, _-_, _≤_, _<_}
+use Prim.Native.Nat.{ℕ, zero, suc, _+_, _-_, _≤_, _<_}
 use native.Mathlib.Omega.{arith}
-use borrow.Author.Tests.{le-leb, lt-leb, leb-true, leb-false, not-true}
+use borrow.Author.Tests.{le-leb, leb-true, leb-false, not-true}
 use lib.Dec.{leb}
 use lib.ListN.{length, getD, take, length-set, length-replicate, getD-replicate}
 use lib.Seq.{length-take-le, getD-take, getD-set-same, getD-set-other}
 use Rattle.declare.specs.declared.Event.{Event}
+use Rattle.declare.specs.declared.Rule.{Rule}
 use Rattle.declare.specs.declared.Table.{Table}
 use Rattle.declare.specs.declared.Polarity.{Polarity}
 use Rattle.declare.specs.declared.Standing.{Standing}
@@ -18,32 +19,33 @@ use Rattle.declare.specs.declared.Standing.the-variants.{Idle, Open, Fulfilled,
 use Rattle.declare.specs.Lists.{all}
 use Rattle.declare.specs.Limits.{mostRules, mostEvents}
 use Rattle.declare.specs.Events.{wellFormed, nonFalling, noEvent, eventAt, emptySlot}
-use Rattle.declare.specs.Rules.{noRule, ruleAt, validTable}
+use Rattle.declare.specs.Overall.{isOverall}
+use Rattle.declare.specs.Rules.{noRule, ruleAt, isOverallRule, validTable}
+use Rattle.declare.specs.Suits.{activationAt}
 use Rattle.declare.specs.Slots.{padded, eventSlots, tableOf, emptyTable}
 use Rattle.declare.specs.Templates.{polarityOf}
-use Rattle.declare.specs.Verdicts.{decided}
-use Rattle.declare.specs.Standings.{isOpen}
+use Rattle.declare.specs.Verdicts.{decided, verdict}
+use Rattle.declare.specs.Standings.{isIdle, isOpen}
 use Rattle.declare.specs.Answers.{_>>_, require, afterCall}
-use Rattle.declare.specs.Steps.{carried, closing, closed}
+use Rattle.declare.specs.Steps.{carried, closed}
 use Rattle.declare.specs.Words.{NeverFall}
 use Rattle.declare.proofs.Booleans.{both₃, and₃}
+use Rattle.declare.proofs.Zero.{activation-zero, closing-zero, closing-event}
+use Rattle.declare.proofs.Exactness.{verdict-is}
+use Rattle.declare.proofs.Steps.{closed-decided}
 use Rattle.declare.proofs.Words.{positive, negative, words as verdict-words}
 use Rattle.declare.proofs.Lists.{all-taken, all-each, each-all}
-use Rattle.standings.specs.declared.Cell.{Cell}
-use Rattle.standings.specs.Places.{places, idleCell, placeOf, standingFrom, standingIn, inUse}
-use Rattle.standings.proofs.Places.{in-use}
-use Rattle.standings.proofs.Changes.{idle-standing, idle-everywhere}
+use Rattle.standings.specs.Places.{places, idleCell}
 use Rattle.run.specs.declared.Run.{Run}
 use Rattle.run.specs.Records.{eventsOf, standingAt, validEvents, validStanding, validAt, validRun, Sized}
 use Rattle.run.specs.Start.{newRun, startOf, started}
 use Rattle.run.specs.Take.{appended, judgedRun}
 use Rattle.run.specs.Close.{closedRun, finishedRun}
-use Rattle.run.specs.Words.{Events, MayStand, Valid, Placed, Starts, NoRules, Appends, InUse, NotInUse, standingNow, KeepsRest, Judges, codeAt, Closes, Finishes, Words}
+use Rattle.run.specs.Words.{Events, MayStand, Valid, Placed, unread, Unread, Starts, NoRules, Appends, InUse, NotInUse, standingNow, KeepsRest, Judges, codeAt, Closes, Finishes, Words}
 use Rattle.run.proofs.Bounds.{valid-parts}
-use Rattle.run.proofs.Places.{judged-length, closed-length, judged-standing, judged-kept, closed-standing, closed-kept, standings-each, each-standings}
-use Rattle.run.proofs.Closing.{closed-decided}
-use Rattle.run.proofs.Grown.{finished-length, finished-idle, finished-verdict}
-use Rattle.run.proofs.Validity.{at-valid, at-idle, taken-valid, past-valid, started-valid, take-valid, close-valid}
+use Rattle.run.proofs.Places.{overall-rule, zero-other, start-idle, start-zero, start-unread, start-overall, judged-length, closed-length, judged-overall, closed-overall, judged-standing, judged-past, judged-none, judged-unread, closed-standing, closed-past, closed-none, closed-unread, validHere, standings-each, each-standings}
+use Rattle.run.proofs.Grown.{finished-length, finished-overall, finished-unread, finished-verdict, finished-rest}
+use Rattle.run.proofs.Validity.{both₄, idle-valid, at-valid, at-idle, taken-valid, past-valid, here-judged, here-idle, here-event, idle-here, zero-here, zero-valid, not-idle, few-code, started-valid, take-valid, close-valid}
 
 -- ---- the events of a record
 
@@ -82,21 +84,45 @@ module _ (events : List Event) (n : ℕ) (room : n ≤ length events) where
 
 -- ---- a standing
 
-module _ (over : Bool) (count i : ℕ) where
-  may→ : (s : Standing) → validAt over count i s ≡ true → MayStand over count i s
-  may→ s v =
-      record {
-        fulfilled = λ j e. leb-true j count (holds (Fulfilled j) e);
-        violated = λ j e. leb-true j count (holds (Violated j) e);
-        running = λ e. not-true over (holds Open e);
-        idle = λ l. at-idle over count i s l v;
-      }
+module _ (over : Bool) (rule : Rule) (count i : ℕ) where
+  may→ : (s : Standing) → validHere over rule count i s ≡ true → (i ≡ 0 → isOverall (rule .code) ≡ false → isIdle s ≡ true) → MayStand over rule count i s
+  may→ s v other = go i refl v
     where
-      holds : (u : Standing) → s ≡ u → validStanding over count u ≡ true
-      holds u e = sym (ap (validStanding over count) e) ∙ at-valid over count i s v
+      stands : validStanding over count s ≡ true → (count < i → isIdle s ≡ true) → (isOverall (rule .code) ≡ true → i ≡ 0 → isIdle s ≡ false) → (isOverall (rule .code) ≡ true → 1 ≤ i → isIdle s ≡ true) → MayStand over rule count i s
+      stands w past judged at-events =
+          record {
+            fulfilled = λ j e. leb-true j count (holds (Fulfilled j) e);
+            violated = λ j e. leb-true j count (holds (Violated j) e);
+            running = λ e. not-true over (holds Open e);
+            idle = past;
+            judged = judged;
+            at-events = at-events;
+          }
+        where
+          holds : (u : Standing) → s ≡ u → validStanding over count u ≡ true
+          holds u e = sym (ap (validStanding over count) e) ∙ w
 
-  may← : (s : Standing) → MayStand over count i s → validAt over count i s ≡ true
-  may← s m = go (leb i count) refl
+      go : (j : ℕ) → i ≡ j → validHere over rule count j s ≡ true → MayStand over rule count i s
+      go zero e v = zero-case (isOverall (rule .code)) refl
+        where
+          zero-case : (o : Bool) → isOverall (rule .code) ≡ o → MayStand over rule count i s
+          zero-case true q =
+              let p = not-idle over count s (here-judged rule over count s q v) in
+              stands (p .1) (λ l. absurd (omega arith)) (λ _ _. p .0) (λ _ l. absurd (omega arith))
+          zero-case false q =
+              stands (idle-valid over count s (other e q)) (λ l. absurd (omega arith)) (λ o. absurd (true≢false (sym o ∙ q))) (λ o. absurd (true≢false (sym o ∙ q)))
+      go (suc j) e v = event-case (isOverall (rule .code)) refl
+        where
+          event-case : (o : Bool) → isOverall (rule .code) ≡ o → MayStand over rule count i s
+          event-case true q =
+              let z : isIdle s ≡ true = here-idle rule over count j s q v in
+              stands (idle-valid over count s z) (λ _. z) (λ _ l. absurd (omega arith)) (λ _ _. z)
+          event-case false q =
+              let w : validAt over count (suc j) s ≡ true = sym (here-event rule over count j s q) ∙ v in
+              stands (at-valid over count (suc j) s w) (λ l. at-idle over count (suc j) s (omega arith) w) (λ o. absurd (true≢false (sym o ∙ q))) (λ o. absurd (true≢false (sym o ∙ q)))
+
+  may← : (s : Standing) → MayStand over rule count i s → validHere over rule count i s ≡ true
+  may← s m = go i refl
     where
       taken : (u : Standing) → s ≡ u → validStanding over count u ≡ true
       taken Idle e = refl
@@ -104,9 +130,16 @@ module _ (over : Bool) (count i : ℕ) where
       taken (Fulfilled j) e = le-leb j count (m .fulfilled j e)
       taken (Violated j) e = le-leb j count (m .violated j e)
 
-      go : (b : Bool) → leb i count ≡ b → validAt over count i s ≡ true
-      go true q = taken-valid over count i s (leb-true i count q) (taken s refl)
-      go false q = let l : count < i = leb-false i count q in past-valid over count i s l (m .idle l)
+      go : (j : ℕ) → i ≡ j → validHere over rule count j s ≡ true
+      go zero e = zero-here rule over count s (λ o. zero-valid over count s (m .judged o e) (taken s refl))
+      go (suc j) e = event-case (isOverall (rule .code)) refl (leb (suc j) count) refl
+        where
+          event-case : (o : Bool) → isOverall (rule .code) ≡ o → (b : Bool) → leb (suc j) count ≡ b → validHere over rule count (suc j) s ≡ true
+          event-case true q b r = idle-here rule over count j s (m .at-events q (omega arith))
+          event-case false q true r = here-event rule over count j s q ∙ taken-valid over count (suc j) s (leb-true (suc j) count r) (taken s refl)
+          event-case false q false r =
+              let l : count < suc j = leb-false (suc j) count r in
+              here-event rule over count j s q ∙ past-valid over count (suc j) s l (m .idle (omega arith))
 
 -- ---- the record
 
@@ -127,16 +160,17 @@ valid→ r size v =
       most = p .events-fit;
       formed = formed→ (r .events) (r .count) room (e .1);
       order = order→ (r .events) (r .count) room (e .2);
-      standings = λ k i a b c d. may→ (r .closed) (r .count) i (standingAt r k i) (standings-each (r .closed) (r .table .count) (r .count) (r .cells) (p .standings) k i a b c d);
+      standings = λ k i a b d. may→ (r .closed) (ruleAt (r .table) k) (r .count) i (standingAt r k i) (standings-each (r .closed) r (p .standings) (p .overall) k i a b d) (λ z o. ap isIdle (ap (standingAt r k) z ∙ zero-other r k (overall-rule (r .table) k b ∙ o)));
     }
 
 valid← : (r : Run) → Sized r → Valid r → validRun r ≡ true
 unfolding validRun validEvents
 valid← r size v =
     let room : r .count ≤ length (r .events) = omega (arith, v .most, size .events) in
-    both₃ (v .table)
+    let p = each-standings (r .closed) r (λ k i a b d. may← (r .closed) (ruleAt (r .table) k) (r .count) i (standingAt r k i) (v .standings k i a b d)) in
+    both₄ (v .table)
     (both₃ (le-leb (r .count) mostEvents (v .most)) (formed← (r .events) (r .count) room (v .formed)) (order← (r .events) (r .count) room (v .order)))
-    (each-standings (r .closed) (r .table .count) (r .count) (r .cells) (λ k i a b c d. may← (r .closed) (r .count) i (standingAt r k i) (v .standings k i a b c d)))
+    (p .0) (p .1)
 
 -- ---- start
 
@@ -150,7 +184,10 @@ new-starts t =
       slots = length-replicate mostEvents emptySlot;
       events = λ i a b. getD-replicate mostEvents (i - 1) emptySlot noEvent (omega arith);
       cells = length-replicate places idleCell;
-      standings = λ k i p. idle-everywhere places k i;
+      overall = start-overall t;
+      standings = λ k i p l. start-idle t k i l;
+      judged = start-zero t;
+      others = λ k u. start-unread t k (u .0) (u .1) (u .2);
     }
 
 starts : (t : Table) → validTable t ≡ true → Starts t (started t)
@@ -172,13 +209,6 @@ refuses t v = (emptyTable, none-has, rw v (new-starts emptyTable))
 
 -- ---- take and close
 
-not-used : (r : Run) (k i : ℕ) → NotInUse r k i → inUse (r .table .count) (r .count) (placeOf k i) ≡ false
-not-used r k i u =
-    in-use k i (u .0 .0) (u .0 .2) (u .0 .3) (r .table .count) (r .count)
-    ∙ ⊎-elim (λ l. ap (λ (t : Bool). t && leb i (r .count)) (lt-leb k (r .table .count) l))
-    (λ l. ap (λ (t : Bool). leb k (r .table .count) && t) (lt-leb i (r .count) l) ∙ and-false (leb k (r .table .count)))
-    (u .1)
-
 module _ (r : Run) (size : Sized r) where
   appends : (e : Event) → r .count < mostEvents → Appends r e (appended r e)
   unfolding appended eventAt
@@ -193,37 +223,44 @@ module _ (r : Run) (size : Sized r) where
             rw n (getD-set-same (r .events) (r .count) e noEvent (omega (arith, size .events)));
         others = λ i a n. getD-set-other (r .events) (r .count) (i - 1) e noEvent (λ q. n (omega arith));
         cells = refl;
+        overall = refl;
       }
 
   module _ (k i : ℕ) where
-    within : Placed k i → placeOf k i < length (r .cells)
-    within p = omega (arith, size .cells, p .0, p .1, p .2, p .3)
-
-    same-cell : (next : Run) → getD (next .cells) (placeOf k i) idleCell ≡ getD (r .cells) (placeOf k i) idleCell → standingAt next k i ≡ standingAt r k i
-    unfolding standingIn standingFrom
-    same-cell next e = ap (λ (c : Cell). c .standing) e
-
-    -- a cell not in use stays
+    -- a standing not in use stays
     judged-rest : NotInUse r k i → standingAt (judgedRun r) k i ≡ standingAt r k i
-    judged-rest u = same-cell (judgedRun r) (judged-kept r (placeOf k i) (within (u .0)) (not-used r k i u))
+    judged-rest u =
+        ⊎-elim (λ l. judged-none r size k (u .0 .0) (u .0 .1) i l (u .0 .2)) (λ l. judged-past r size k (u .0 .0) (u .0 .1) i l (u .0 .2)) (u .1)
 
     closed-rest : NotInUse r k i → standingAt (closedRun r) k i ≡ standingAt r k i
-    closed-rest u = same-cell (closedRun r) (closed-kept r (placeOf k i) (within (u .0)) (not-used r k i u))
+    closed-rest u =
+        ⊎-elim (λ l. closed-none r size k (u .0 .0) (u .0 .1) i l (u .0 .2)) (λ l. closed-past r size k (u .0 .0) (u .0 .1) i l (u .0 .2)) (u .1)
 
     -- one in use by what stands there
     judged-from : InUse r k i → {s : Standing} → standingAt r k i ≡ s → standingAt (judgedRun r) k i ≡ carried s (standingNow r k i)
     judged-from u e =
-        judged-standing r (size .cells) k i (u .0 .0) (u .0 .1) (u .0 .2) (u .0 .3) (u .1) (u .2)
+        judged-standing r size k (u .0 .0) (u .0 .1) i (u .1) (u .2) (u .0 .2)
         ∙ ap (λ (s : Standing). carried s (standingNow r k i)) e
 
     closed-from : InUse r k i → {s : Standing} → standingAt r k i ≡ s → standingAt (closedRun r) k i ≡ closed (ruleAt (r .table) k) (eventsOf r) i s
     closed-from u e =
-        closed-standing r (size .cells) k i (u .0 .0) (u .0 .1) (u .0 .2) (u .0 .3) (u .1) (u .2)
+        closed-standing r size k (u .0 .0) (u .0 .1) i (u .1) (u .2) (u .0 .2)
         ∙ ap (closed (ruleAt (r .table) k) (eventsOf r) i) e
 
-    closed-open : InUse r k i → standingAt r k i ≡ Open → {p : Polarity} → polarityOf (ruleAt (r .table) k) ≡ p → standingAt (closedRun r) k i ≡ decided p 0
-    unfolding closed closing
-    closed-open u o e = closed-from u o ∙ ap (λ (p : Polarity). decided p 0) e
+    -- what is open under one of the twelve is so at an event
+    open-event : InUse r k i → standingAt r k i ≡ Open → codeAt r k ≤ 12 → 1 ≤ i
+    open-event u o few = go i refl
+      where
+        go : (j : ℕ) → i ≡ j → 1 ≤ i
+        go zero e =
+            let none : isOverallRule (r .table) k ≡ false = overall-rule (r .table) k (u .1) ∙ few-code (codeAt r k) few in
+            absurd (true≢false (sym (ap isOpen o) ∙ ap isOpen (ap (standingAt r k) e ∙ zero-other r k none)))
+        go (suc j) e = omega arith
+
+    closed-open : InUse r k i → standingAt r k i ≡ Open → codeAt r k ≤ 12 → {p : Polarity} → polarityOf (ruleAt (r .table) k) ≡ p → standingAt (closedRun r) k i ≡ decided p 0
+    unfolding closed
+    closed-open u o few e =
+        closed-from u o ∙ closing-event (ruleAt (r .table) k) (eventsOf r) i (open-event u o few) ∙ ap (λ (p : Polarity). decided p 0) e
 
     closed-other : Placed k i → isOpen (standingAt r k i) ≡ false → standingAt (closedRun r) k i ≡ standingAt r k i
     closed-other p h = go (leb k (r .table .count)) (leb i (r .count)) refl refl
@@ -236,29 +273,45 @@ module _ (r : Run) (size : Sized r) where
         go false b a c = closed-rest (p, inl (leb-false k (r .table .count) a))
 
   -- the arrays, and what else stays
-  keeps : (next : Run) → next .table ≡ r .table → next .count ≡ r .count → next .events ≡ r .events → length (next .cells) ≡ length (r .cells) → ((k i : ℕ) → NotInUse r k i → standingAt next k i ≡ standingAt r k i) → KeepsRest r next
-  keeps next t n es l f = record { table = t; count = n; events = es; cells = l ∙ size .cells; standings = f }
+  keeps : (next : Run) → next .table ≡ r .table → next .count ≡ r .count → next .events ≡ r .events → length (next .cells) ≡ length (r .cells) → length (next .overall) ≡ length (r .overall) → ((k i : ℕ) → NotInUse r k i → standingAt next k i ≡ standingAt r k i) → ((k : ℕ) → Unread r k → unread next k ≡ unread r k) → KeepsRest r next
+  keeps next t n es l m f g =
+      record { table = t; count = n; events = es; cells = l ∙ size .cells; overall = m ∙ size .overall; standings = f; others = g }
 
   judges : Judges r (judgedRun r)
   unfolding judgedRun carried
   judges =
       record {
         phase = refl;
-        rest = keeps (judgedRun r) refl refl refl (judged-length r) judged-rest;
+        rest = keeps (judgedRun r) refl refl refl (judged-length r) (judged-overall r) judged-rest (λ k u. judged-unread r size k (u .0) (u .1) (u .2));
         fulfilled = λ k i j u e. judged-from k i u e;
         violated = λ k i j u e. judged-from k i u e;
         «open» = λ k i u e. judged-from k i u e;
         idle = λ k i u e. judged-from k i u e;
       }
 
+  -- what is open at position 0 is decided by the formula
+  closed-zero : (k : ℕ) → InUse r k 0 → standingAt r k 0 ≡ Open → standingAt (closedRun r) k 0 ≡ verdict (ruleAt (r .table) k) (eventsOf r) 0
+  unfolding closed
+  closed-zero k u o = go (isOverallRule (r .table) k) refl
+    where
+      rule : Rule
+      rule = ruleAt (r .table) k
+
+      go : (b : Bool) → isOverallRule (r .table) k ≡ b → standingAt (closedRun r) k 0 ≡ verdict rule (eventsOf r) 0
+      go true q =
+          let on : activationAt rule (eventsOf r) 0 ≡ true = activation-zero rule (eventsOf r) ∙ sym (overall-rule (r .table) k (u .1)) ∙ q in
+          closed-from k 0 u o ∙ closing-zero rule (eventsOf r) ∙ sym (verdict-is rule (eventsOf r) 0 on)
+      go false q = absurd (true≢false (sym (ap isOpen o) ∙ ap isOpen (zero-other r k q)))
+
   closes : Closes r (closedRun r)
   unfolding closedRun decided
   closes =
       record {
         phase = refl;
-        rest = keeps (closedRun r) refl refl refl (closed-length r) closed-rest;
-        violated = λ k i u o a b. closed-open k i u o (positive (codeAt r k) a b);
-        fulfilled = λ k i u o a b. closed-open k i u o (negative (codeAt r k) a b);
+        rest = keeps (closedRun r) refl refl refl (closed-length r) (closed-overall r) closed-rest (λ k u. closed-unread r size k (u .0) (u .1) (u .2));
+        violated = λ k i u o a b. closed-open k i u o (omega arith) (positive (codeAt r k) a b);
+        fulfilled = λ k i u o a b. closed-open k i u o b (negative (codeAt r k) a b);
+        overall = closed-zero;
         others = closed-other;
       }
 
@@ -273,8 +326,10 @@ finishes t es =
       count = refl;
       events = refl;
       cells = finished-length t es;
+      overall = finished-overall t es;
       verdicts = λ k i u. finished-verdict t es k i (u .0) (u .1) (u .2);
-      others = λ k i u. idle-standing _ k i (finished-idle t es (placeOf k i) (omega (arith, u .0 .0, u .0 .1, u .0 .2, u .0 .3)) (not-used (finishedRun t (length es) (eventSlots es)) k i u));
+      others = λ k i u. finished-rest t es k i (u .0 .0) (u .0 .1) (u .0 .2) (u .1);
+      unread-idle = λ k u. finished-unread t es k (u .0) (u .1) (u .2);
     }
 
 pub words : Words

@@ -3,7 +3,7 @@
 use mathlib.Core.Path.{_≡_}
 use mathlib.Core.Bool.{Bool, true, false}
 use mathlib.Core.List.{List, [], _∷_, _++_, map}
-use Prim.Native.Nat.{ℕ, _-_}
+use Prim.Native.Nat.{ℕ}
 use lib.ListN.{getD, replicate}
 use Rattle.declare.specs.declared.End.the-variants.{Never, At}
 use Rattle.declare.specs.declared.Event.{Event}
@@ -17,11 +17,11 @@ use Rattle.standings.specs.declared.Cell.{Cell}
 use Rattle.standings.specs.declared.totals.Totals.{Totals}
 use Rattle.standings.specs.Totals.{totalsBy}
 use Rattle.run.specs.declared.Run.{Run}
-use Rattle.run.specs.Records.{standingAt, validRun}
+use Rattle.run.specs.Records.{standingAt, totalsIn, validRun}
 use Rattle.run.specs.Start.{started}
 use Rattle.run.specs.Take.{judgedRun}
 use Rattle.run.specs.Close.{closedRun, finishedRun}
-use Rattle.run.specs.Queries.{oneOf}
+use Rattle.run.specs.Queries.{oneOf, isPosition}
 
 -- ---- how the cases are written
 
@@ -41,17 +41,24 @@ AsExpected {A} cases = map (λ (c : Case A). c .found) cases ≡ map (λ (c : Ca
 abbrev pub coded : ℕ → Rule
 coded code = rule code 2 (window 0 Never) always
 
--- a record of the first k of these rules and the first n of these events; its first cells have
--- these standings, and it has no others
-abbrev pub recordOf : Bool → List Rule → ℕ → List Event → ℕ → List Standing → Run
-recordOf closed rules k events n standings =
+abbrev pub cellsOf : List Standing → List Cell
+cellsOf standings = map (λ (s : Standing). record { standing = s }) standings
+
+-- a record of the first k of these rules and the first n of these events; its first cells, and its
+-- cells of position 0, have these standings, and it has no others
+abbrev pub recordWith : Bool → List Rule → ℕ → List Event → ℕ → List Standing → List Standing → Run
+recordWith closed rules k events n standings zeros =
     record {
       closed = closed;
       table = record { count = k; rules = rules };
       count = n;
       events = events;
-      cells = map (λ (s : Standing). record { standing = s }) standings;
+      cells = cellsOf standings;
+      overall = cellsOf zeros;
     }
+
+abbrev pub recordOf : Bool → List Rule → ℕ → List Event → ℕ → List Standing → Run
+recordOf closed rules k events n standings = recordWith closed rules k events n standings []
 
 abbrev pub standingsOf : Run → List Standing
 standingsOf r = map (λ (c : Cell). c .standing) (r .cells)
@@ -73,6 +80,11 @@ ofEvents events n = recordOf false [] 0 events n []
 abbrev pub ofStandings : Bool → ℕ → ℕ → List Standing → Run
 ofStandings closed k n standings =
     recordOf closed (coded 2 ∷ coded 9 ∷ []) k (replicate n (event 0 1)) n standings
+
+-- and under the first k of two rules, of which the first is about the cycle
+abbrev pub ofCycle : Bool → ℕ → ℕ → List Standing → List Standing → Run
+ofCycle closed k n standings zeros =
+    recordWith closed (coded 13 ∷ coded 9 ∷ []) k (replicate n (event 0 1)) n standings zeros
 
 unfoldable pub records : List (Case Bool)
 records =
@@ -107,6 +119,19 @@ records =
     -- of its rules only
     ∷ validRun (ofStandings true 1 1 (replicate 256 Idle ++ (Open ∷ []))) is true
     ∷ validRun (ofStandings true 2 1 (replicate 256 Idle ++ (Open ∷ []))) is false
+    -- under a rule about the cycle position 0 is not idle, and the others are
+    ∷ validRun (ofCycle false 1 1 [] (Idle ∷ [])) is false
+    ∷ validRun (ofCycle false 1 1 [] (Open ∷ [])) is true
+    ∷ validRun (ofCycle true 1 1 [] (Open ∷ [])) is false
+    ∷ validRun (ofCycle true 1 1 [] (Fulfilled 1 ∷ [])) is true
+    ∷ validRun (ofCycle true 1 1 [] (Fulfilled 2 ∷ [])) is false
+    ∷ validRun (ofCycle true 1 1 [] (Violated 1 ∷ [])) is true
+    ∷ validRun (ofCycle true 1 1 [] (Violated 2 ∷ [])) is false
+    ∷ validRun (ofCycle true 1 1 (Violated 0 ∷ []) (Violated 0 ∷ [])) is false
+    ∷ validRun (ofCycle false 1 1 (Open ∷ []) (Open ∷ [])) is false
+    -- of other rules it is not read, nor past the rules
+    ∷ validRun (ofCycle true 2 1 [] (Violated 0 ∷ Open ∷ [])) is true
+    ∷ validRun (ofCycle true 1 1 [] (Violated 0 ∷ Idle ∷ Fulfilled 9 ∷ [])) is true
     ∷ []
 
 -- ---- start
@@ -116,6 +141,21 @@ unfoldable pub starts : List (Case ℕ)
 starts =
     started (record { count = 1; rules = coded 2 ∷ noRule ∷ [] }) .table .count is 1
     ∷ started (record { count = 2; rules = coded 2 ∷ noRule ∷ [] }) .table .count is 0
+    ∷ []
+
+-- the standings at position 0 that start gives
+abbrev pub zerosOf : Run → List Standing
+zerosOf r = map (λ (c : Cell). c .standing) (r .overall)
+
+unfoldable pub zeros : List (Case (List Standing))
+zeros =
+    zerosOf (started (record { count = 3; rules = coded 2 ∷ coded 13 ∷ coded 14 ∷ coded 15 ∷ [] })) is (Idle ∷ Open ∷ Open ∷ replicate 13 Idle)
+    -- judged by the events, closed by the formula; those of other rules stay as they are
+    ∷ zerosOf (judgedRun (ofCycle false 2 1 [] (Open ∷ Open ∷ Violated 7 ∷ []))) is (Fulfilled 1 ∷ Open ∷ Violated 7 ∷ [])
+    ∷ zerosOf (judgedRun (ofCycle false 2 1 [] (Violated 0 ∷ Open ∷ []))) is (Violated 0 ∷ Open ∷ [])
+    ∷ zerosOf (closedRun (ofCycle false 2 1 [] (Open ∷ Open ∷ Open ∷ []))) is (Fulfilled 1 ∷ Open ∷ Open ∷ [])
+    ∷ zerosOf (closedRun (ofCycle false 2 0 [] (Open ∷ Open ∷ []))) is (Violated 0 ∷ Open ∷ [])
+    ∷ zerosOf (closedRun (ofCycle false 2 1 [] (Violated 0 ∷ Open ∷ []))) is (Violated 0 ∷ Open ∷ [])
     ∷ []
 
 -- ---- take
@@ -159,7 +199,7 @@ closings =
 -- response and its negative, over three events: 1, 2, 1
 abbrev pub verdicts : ℕ → ℕ → Standing
 verdicts k i =
-    standingAt (finishedRun (tableOf (coded 2 ∷ coded 9 ∷ [])) 3 (eventSlots (event 0 1 ∷ event 1 2 ∷ event 2 1 ∷ []))) k i
+    standingAt (finishedRun (tableOf (coded 2 ∷ coded 9 ∷ coded 16 ∷ [])) 3 (eventSlots (event 0 1 ∷ event 1 2 ∷ event 2 1 ∷ []))) k i
 
 unfoldable pub finished : List (Case Standing)
 finished =
@@ -169,9 +209,13 @@ finished =
     ∷ verdicts 1 3 is Violated 0
     ∷ verdicts 2 1 is Violated 2
     ∷ verdicts 2 3 is Fulfilled 0
+    -- position 0, under exclusive choice and under the others
+    ∷ verdicts 3 0 is Violated 1
+    ∷ verdicts 3 1 is Idle
+    ∷ verdicts 1 0 is Idle
     -- past the events and the rules
     ∷ verdicts 1 4 is Idle
-    ∷ verdicts 3 1 is Idle
+    ∷ verdicts 4 1 is Idle
     ∷ []
 
 -- ---- standing and totals
@@ -180,36 +224,56 @@ finished =
 unfoldable pub numbers : List (Case Bool)
 numbers = oneOf 3 0 is false ∷ oneOf 3 1 is true ∷ oneOf 3 3 is true ∷ oneOf 3 4 is false ∷ []
 
+-- rule 1 is about the cycle, rule 2 is not; of 3 events
+abbrev pub position : ℕ → ℕ → Bool
+position k i = isPosition (record { count = 2; rules = coded 13 ∷ coded 9 ∷ coded 13 ∷ [] }) 3 k i
+
+unfoldable pub positions : List (Case Bool)
+positions =
+    position 1 0 is true
+    ∷ position 2 0 is false
+    ∷ position 3 0 is false
+    ∷ position 1 1 is true
+    ∷ position 2 3 is true
+    ∷ position 1 4 is false
+    ∷ position 2 4 is false
+    ∷ []
+
 -- activations, fulfilled, violated, open
 abbrev pub totals : ℕ → ℕ → ℕ → ℕ → Totals
 totals activations fulfilled violated still =
     record { activations = activations; fulfilled = fulfilled; violated = violated; «open» = still }
 
--- the standing of each of eight positions
+-- the standing of each of the positions 0 to 8
 abbrev pub stands : ℕ → Standing
 stands i =
-    getD (Idle ∷ Open ∷ Fulfilled 3 ∷ Violated 1 ∷ Fulfilled 0 ∷ Idle ∷ Violated 0 ∷ Fulfilled 2 ∷ []) (i - 1) Idle
+    getD (Violated 0 ∷ Idle ∷ Open ∷ Fulfilled 3 ∷ Violated 1 ∷ Fulfilled 0 ∷ Idle ∷ Violated 0 ∷ Fulfilled 2 ∷ []) i Idle
 
--- of the first positions, position by position
+-- of the first positions, position by position, from 0 on
 unfoldable pub counted : List (Case Totals)
 counted =
-    totalsBy stands 0 is totals 0 0 0 0
-    ∷ totalsBy stands 1 is totals 0 0 0 0
-    ∷ totalsBy stands 2 is totals 1 0 0 1
-    ∷ totalsBy stands 3 is totals 2 1 0 1
-    ∷ totalsBy stands 4 is totals 3 1 1 1
-    ∷ totalsBy stands 5 is totals 4 2 1 1
-    ∷ totalsBy stands 6 is totals 4 2 1 1
-    ∷ totalsBy stands 7 is totals 5 2 2 1
-    ∷ totalsBy stands 8 is totals 6 3 2 1
+    totalsBy stands 0 is totals 1 0 1 0
+    ∷ totalsBy stands 1 is totals 1 0 1 0
+    ∷ totalsBy stands 2 is totals 2 0 1 1
+    ∷ totalsBy stands 3 is totals 3 1 1 1
+    ∷ totalsBy stands 4 is totals 4 1 2 1
+    ∷ totalsBy stands 5 is totals 5 2 2 1
+    ∷ totalsBy stands 6 is totals 5 2 2 1
+    ∷ totalsBy stands 7 is totals 6 2 3 1
+    ∷ totalsBy stands 8 is totals 7 3 3 1
+    -- of a run: position 0 of a rule about the cycle, and not of another
+    ∷ totalsIn (ofCycle true 2 1 [] (Fulfilled 1 ∷ Fulfilled 1 ∷ [])) 1 is totals 1 1 0 0
+    ∷ totalsIn (ofCycle true 2 1 [] (Fulfilled 1 ∷ Fulfilled 1 ∷ [])) 2 is totals 0 0 0 0
     ∷ []
 
 pub record Checked : Type 0 where
   pub of-codes : AsExpected codes
   pub of-records : AsExpected records
   pub of-starts : AsExpected starts
+  pub of-zeros : AsExpected zeros
   pub of-takes : AsExpected judgements
   pub of-closings : AsExpected closings
   pub of-finished : AsExpected finished
   pub of-numbers : AsExpected numbers
+  pub of-positions : AsExpected positions
   pub of-totals : AsExpected counted

@@ -103,7 +103,8 @@ fn valid_overall(closed: bool, table: Table, count: usize, overall: [Cell; RULES
     for k in 0..table.count {
         let rule = table.rules[k];
         let c = overall[k];
-        if is_overall(rule.code) & !valid_zero(closed, count, c.standing) {
+        let s = c.standing;
+        if is_overall(rule.code) & !valid_zero(closed, count, s) {
             return false;
         }
     }

@@ -10,9 +10,10 @@ use lib.Dec.{ltb}
 use lib.ListN.{length, getD}
 use lib.Seq.{ext-getD}
 use Rattle.declare.specs.declared.Standing.{Standing}
+use Rattle.declare.specs.Limits.{mostRules}
 use Rattle.declare.proofs.Booleans.{and₂}
 use Rattle.standings.specs.declared.Cell.{Cell}
-use Rattle.standings.specs.Places.{places, idleCell, standingFrom, standingIn, inUse}
+use Rattle.standings.specs.Places.{places, idleCell, standingFrom, standingIn, overallIn, inUse}
 
 -- the standing at a place, by its rule and position
 pub standing-at : (cells : List Cell) (j : ℕ) → standingIn cells (j / 256 + 1) (j % 256 + 1) ≡ (getD cells j idleCell) .standing
@@ -51,3 +52,18 @@ same-cells rules n xs ys f g same =
         by-use : (b : Bool) → inUse rules n j ≡ b → getD xs j idleCell ≡ getD ys j idleCell
         by-use true e = used j e
         by-use false e = f .idle j h e ∙ sym (g .idle j h e)
+
+-- ---- position 0
+
+pub same-overall : (of : ℕ → Bool) (xs ys : List Cell) → length xs ≡ mostRules → length ys ≡ mostRules → ((k : ℕ) → 1 ≤ k → k ≤ mostRules → of k ≡ false → getD xs (k - 1) idleCell ≡ idleCell) → ((k : ℕ) → 1 ≤ k → k ≤ mostRules → of k ≡ false → getD ys (k - 1) idleCell ≡ idleCell) → ((k : ℕ) → 1 ≤ k → k ≤ mostRules → of k ≡ true → overallIn xs k ≡ overallIn ys k) → xs ≡ ys
+unfolding overallIn
+same-overall of xs ys f g p q same =
+    ext-getD idleCell xs ys (f ∙ sym g) (λ j h. here j (subst (λ (n : ℕ). j < n) f h) (of (j + 1)) refl)
+  where
+    here : (j : ℕ) → j < mostRules → (o : Bool) → of (j + 1) ≡ o → getD xs j idleCell ≡ getD ys j idleCell
+    here j h true e =
+        let n : j + 1 - 1 ≡ j = omega arith in
+        ap cell-of (subst (λ (i : ℕ). getD xs i idleCell .standing ≡ getD ys i idleCell .standing) n (same (j + 1) (omega arith) (omega arith) e))
+    here j h false e =
+        let n : j + 1 - 1 ≡ j = omega arith in
+        rw n at (p (j + 1) (omega arith) (omega arith) e ∙ sym (q (j + 1) (omega arith) (omega arith) e))

@@ -1,5 +1,4 @@
 -- The rule's target and window, the time, and the tests of the activation condition.
-use mathlib.Core.Path.{_∙_}
 use Rattle.condition.specs.Bound.{cycleBound}
 use borrow.Author.Needs.{needs}
 use Rattle.condition.proofs.bound.cycle_bound.Statement.{statement}

@@ -1,5 +1,4 @@
 -- What can suit the rule bound to the first time can occur.
-use mathlib.Core.Path.{_∙_}
 use Rattle.condition.proofs.Laws.{bound-can-occur}
 use borrow.Author.Needs.{needs}
 use Rattle.judge.proofs.overall.can_occur.Statement.{statement}

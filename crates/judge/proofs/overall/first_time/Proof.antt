@@ -1,5 +1,4 @@
 -- Of no events the horizon; else the first event is the first of the slots.
-use native.Mathlib.Omega.{arith}
 use Prim.Native.Nat.{_<_}
 use lib.ListN.{length}
 use Rattle.declare.specs.Events.{noEvent, firstTime}

@@ -1,16 +1,15 @@
 -- The loop has changed the cells passed as the definition changes them all: under a rule about the
 -- cycle one that is not decided is judged, any other stays as it is; past the rules all stay.
 use mathlib.Core.Path.{_≡_, sym, subst, ap, ap₂, _∙_}
-use mathlib.Core.Bool.{true, not, _&&_}
+use mathlib.Core.Bool.{not, _&&_}
 use mathlib.Core.List.{List}
 use mathlib.Core.Logic.{⊎-elim}
-use Prim.Native.Nat.{ℕ, _+_, _-_, min, _≤_, _<_}
+use Prim.Native.Nat.{ℕ, _+_, _-_, _≤_, _<_}
 use native.Mathlib.Omega.{arith}
 use borrow.Author.Needs.{needs}
 use borrow.Author.Tests.{not-true}
 use lib.ListN.{length, take}
 use Rattle.declare.specs.declared.Event.{Event}
-use Rattle.declare.specs.declared.Table.{Table}
 use Rattle.declare.specs.Limits.{mostRules, mostEvents}
 use Rattle.declare.specs.Rules.{noComparison, noCondition, noRule, isOverallRule}
 use Rattle.declare.proofs.Booleans.{and-left, and₂}

@@ -1,8 +1,8 @@
 -- The activity, the window and the condition, up to the first that does not hold.
-use mathlib.Core.Path.{sym, ap, _∙_}
+use mathlib.Core.Path.{sym, _∙_}
 use mathlib.Core.Bool.{and-true, and-false}
 use borrow.Author.Tests.{ne-eqb, eq-eqb, not-true, not-false}
-use Rattle.declare.specs.Suits.{occurs, within}
+use Rattle.declare.specs.Suits.{occurs}
 use borrow.Author.Needs.{needs}
 use Rattle.judge.proofs.overall.occurs_at.Statement.{statement}
 use Rattle.judge.proofs.overall.occurs_at.Tie as tie

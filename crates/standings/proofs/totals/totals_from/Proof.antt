@@ -1,5 +1,5 @@
 -- The loop has the totals of the positions passed, if it began with those of position 0.
-use mathlib.Core.Path.{_≡_, refl, ap, ap₂, _∙_}
+use mathlib.Core.Path.{_≡_, refl, ap, _∙_}
 use Prim.Native.Nat.{_-_, _≤_}
 use native.Mathlib.Omega.{arith}
 use Rattle.declare.specs.declared.Standing.{Standing}
