@@ -29,9 +29,13 @@ unfoldable pub linesUpTo : (ℕ → List PrintedLine) → ℕ → List PrintedLi
 linesUpTo f zero = []
 linesUpTo f (suc n) = linesUpTo f n ++ f (suc n)
 
--- "a line per activation in order of position": of the positions 1 to n, whose standings are s
+-- of the positions 1 to n, whose standings are s
+unfoldable pub eventLines : ℕ → (ℕ → Standing) → ℕ → List PrintedLine
+eventLines k s n = linesUpTo (λ i. positionLines k i (s i)) n
+
+-- "a line per activation in order of position", a rule about the cycle "as position 0"
 unfoldable pub activationLines : ℕ → (ℕ → Standing) → ℕ → List PrintedLine
-activationLines k s n = linesUpTo (λ i. positionLines k i (s i)) n
+activationLines k s n = positionLines k 0 (s 0) ++ eventLines k s n
 
 unfoldable pub totalOf : ℕ → Totals → PrintedLine
 totalOf k t = totalLine k (t .activations) (t .fulfilled) (t .violated)

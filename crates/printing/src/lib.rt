@@ -14,7 +14,7 @@ mod rules; // rules.rt: the lines of rules
 pub mod refused; // refused.rt: the line of a refusal
 
 // The most bytes that are printed.
-pub const PRINTED_BYTES: usize = 53584;
+pub const PRINTED_BYTES: usize = 53792;
 
 // What is printed of the run, closed or not. Refused with 11 or 15.
 pub fn write_report(run: Run, out: &mut [u8]) -> WriteAnswer
