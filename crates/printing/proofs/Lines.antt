@@ -1,20 +1,20 @@
 -- Lines are put one after another: those of 1 to n, then those of n + 1.
-use mathlib.Core.Path.{_≡_, ap}
-use mathlib.Core.List.{List}
+use mathlib.Core.Path.{_≡_, sym, ap}
+use mathlib.Core.List.{List, [], _∷_, _++_, append-assoc}
 use Prim.Native.Nat.{ℕ, suc, _+_, _-_, _*_}
 use native.Mathlib.Omega.{arith}
 use native.Mathlib.Numerals.{add-one}
 use Rattle.declare.specs.declared.Standing.{Standing}
 use Rattle.standings.specs.declared.Cell.{Cell}
 use Rattle.standings.specs.declared.totals.Totals.{Totals}
-use Rattle.standings.specs.Places.{standingFrom, standingIn}
+use Rattle.standings.specs.Places.{standingFrom, standingIn, withZero}
 use Rattle.standings.specs.Totals.{totalsBy}
 use Rattle.line.specs.Texts.{writtenLine, writtenText}
 use Rattle.buffer.specs.Puts.{Puts}
 use Rattle.buffer.proofs.Puts.{puts-none, puts-as}
 use Rattle.buffer.proofs.Lines.{puts-lines, puts-single}
 use Rattle.printing.specs.Lines.{PrintedLine, lineFields}
-use Rattle.printing.specs.Report.{linesUpTo, positionLines, activationLines, totalOf, ruleLines}
+use Rattle.printing.specs.Report.{linesUpTo, positionLines, eventLines, activationLines, totalOf, ruleLines}
 
 -- the text of some lines is put
 abbrev pub PutLines : List PrintedLine → List ℕ → ℕ → List ℕ → ℕ → Type 0

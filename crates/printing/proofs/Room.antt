@@ -1,21 +1,25 @@
 -- How many bytes are printed: of a line at most 13 for an activation, 21 for a total; of a valid
--- run at most 53584.
-use mathlib.Core.Path.{_≡_, refl}
-use mathlib.Core.Bool.{Bool, true}
-use mathlib.Core.List.{List, [], _∷_}
-use Prim.Native.Nat.{ℕ, zero, suc, _+_, _*_, _^_, _≤_, _<_}
+-- run, with position 0, at most 53792.
+use mathlib.Core.Path.{_≡_, refl, sym, ap, _∙_}
+use mathlib.Core.Bool.{Bool, true, false}
+use mathlib.Core.List.{List, [], _∷_, _++_}
+use Prim.Native.Nat.{ℕ, zero, suc, _+_, _*_, _^_, _≤_, _<_, zero-le}
 use native.Mathlib.Nat.{mul-suc}
 use native.Mathlib.Omega.{arith}
 use borrow.Author.Tests.{leb-true}
 use Rattle.declare.specs.Lists.{all}
+use Rattle.declare.specs.declared.Rule.{Rule}
 use Rattle.declare.specs.declared.Standing.{Standing}
 use Rattle.declare.specs.declared.Standing.the-variants.{Idle, Open, Fulfilled, Violated}
+use Rattle.declare.specs.Overall.{isOverall}
+use Rattle.declare.specs.Rules.{ruleAt}
+use Rattle.declare.specs.Standings.{isIdle}
 use Rattle.standings.proofs.Counts.{totals-small}
 use Rattle.run.specs.declared.Run.{Run}
 use Rattle.run.specs.Records.{standingAt, validStanding, validRun}
 use Rattle.run.proofs.Bounds.{valid-parts}
-use Rattle.run.proofs.Places.{standings-each}
-use Rattle.run.proofs.Validity.{at-valid}
+use Rattle.run.proofs.Places.{overall-rule, zero-other, validHere, standings-each}
+use Rattle.run.proofs.Validity.{idle-valid, at-valid, here-judged, here-idle, here-event, not-idle}
 use Rattle.line.specs.Fields.{isByte}
 use Rattle.line.specs.Texts.{writtenLine, writtenText}
 use Rattle.line.proofs.Texts.{written-append, written-one}
@@ -23,7 +27,7 @@ use Rattle.line.proofs.Lengths.{Within, within-none, within-more, within-append
 use Rattle.notebook.specs.declared.Text.{Text}
 use Rattle.notebook.specs.declared.Text.the-variants.{Rules, Cycle}
 use Rattle.printing.specs.Lines.{PrintedLine, activationLine, totalLine, refusedLine, totalWord, refusedWord, lineFields}
-use Rattle.printing.specs.Report.{positionLines, linesUpTo, activationLines, totalOf, ruleLines, reportLines, reportOf, wordOf}
+use Rattle.printing.specs.Report.{positionLines, linesUpTo, eventLines, activationLines, totalOf, ruleLines, reportLines, reportOf, wordOf}
 use Rattle.printing.specs.Printing.{printedBytes}
 
 -- ---- lines
@@ -80,24 +84,40 @@ up-to-within most f (suc n) h =
     more : (m n : ℕ) → m * n + m ≤ m * suc n
     more m n = rw (mul-suc m n) (omega arith)
 
-rule-within : (over : Bool) (n k : ℕ) → n < 1000 → k < 100 → (s : ℕ → Standing) → ((i : ℕ) → 1 ≤ i → i ≤ n → validStanding over n (s i) ≡ true) → Within (13 * n + 21) (writtenText lineFields (ruleLines k s n))
-unfolding ruleLines activationLines totalOf
+-- a line, and those of 1 to n
+rule-within : (over : Bool) (n k : ℕ) → n < 998 → k < 100 → (s : ℕ → Standing) → ((i : ℕ) → i ≤ n → validStanding over n (s i) ≡ true) → Within (13 + 13 * n + 21) (writtenText lineFields (ruleLines k s n))
+unfolding ruleLines activationLines eventLines totalOf
 rule-within over n k few rule s f =
     let t = totals-small s n refl in
-    rw (written-append lineFields (activationLines k s n) _, written-one lineFields _)
-    (within-append (up-to-within 13 _ n (λ i a b. position-within over n k i (s i) few rule (omega arith) (f i a b))) (total-within k _ _ _ rule (omega (arith, t .activations)) (omega (arith, t .fulfilled)) (omega (arith, t .violated))))
+    rw (written-append lineFields (positionLines k 0 (s 0) ++ linesUpTo (λ i. positionLines k i (s i)) n) _, written-append lineFields (positionLines k 0 (s 0)) (linesUpTo (λ i. positionLines k i (s i)) n), written-one lineFields _)
+    (within-append (within-append (position-within over n k 0 (s 0) (omega arith) rule (omega arith) (f 0 zero-le)) (up-to-within 13 _ n (λ i a b. position-within over n k i (s i) (omega arith) rule (omega arith) (f i b))))
+    (total-within k _ _ _ rule (omega (arith, t .activations)) (omega (arith, t .fulfilled)) (omega (arith, t .violated))))
 
 -- ---- a run
 
+-- what may stand at a position of a valid record is valid
+here-valid : (rule : Rule) (over : Bool) (n i : ℕ) (s : Standing) → validHere over rule n i s ≡ true → (i ≡ 0 → isOverall (rule .code) ≡ false → isIdle s ≡ true) → validStanding over n s ≡ true
+here-valid rule over n zero s v other = go (isOverall (rule .code)) refl
+  where
+    go : (o : Bool) → isOverall (rule .code) ≡ o → validStanding over n s ≡ true
+    go true q = not-idle over n s (here-judged rule over n s q v) .1
+    go false q = idle-valid over n s (other refl q)
+here-valid rule over n (suc i) s v other = go (isOverall (rule .code)) refl
+  where
+    go : (o : Bool) → isOverall (rule .code) ≡ o → validStanding over n s ≡ true
+    go true q = idle-valid over n s (here-idle rule over n i s q v)
+    go false q = at-valid over n (suc i) s (sym (here-event rule over n i s q) ∙ v)
+
 module _ (r : Run) (valid : validRun r ≡ true) where
-  may-stand : (k i : ℕ) → 1 ≤ k → k ≤ r .table .count → 1 ≤ i → i ≤ r .count → validStanding (r .closed) (r .count) (standingAt r k i) ≡ true
-  may-stand k i a b c d =
+  may-stand : (k i : ℕ) → 1 ≤ k → k ≤ r .table .count → i ≤ r .count → validStanding (r .closed) (r .count) (standingAt r k i) ≡ true
+  may-stand k i a b d =
       let p = valid-parts r valid in
-      at-valid (r .closed) (r .count) i (standingAt r k i) (standings-each (r .closed) (r .table .count) (r .count) (r .cells) (p .standings) k i a b c (omega (arith, p .events-fit)))
+      here-valid (ruleAt (r .table) k) (r .closed) (r .count) i (standingAt r k i) (standings-each (r .closed) r (p .standings) (p .overall) k i a b (omega (arith, p .events-fit)))
+      (λ z o. ap isIdle (ap (standingAt r k) z ∙ zero-other r k (overall-rule (r .table) k b ∙ o)))
 
   pub report-within : Within printedBytes (reportOf r)
   unfolding reportOf reportLines
   report-within =
       let p = valid-parts r valid in
       within-most (omega (arith, p .rules-fit))
-      (up-to-within 3349 _ (r .table .count) (λ k a b. within-most (omega (arith, p .events-fit)) (rule-within (r .closed) (r .count) k (omega (arith, p .events-fit)) (omega (arith, p .rules-fit)) (standingAt r k) (λ i c d. may-stand k i a b c d))))
+      (up-to-within 3362 _ (r .table .count) (λ k a b. within-most (omega (arith, p .events-fit)) (rule-within (r .closed) (r .count) k (omega (arith, p .events-fit)) (omega (arith, p .rules-fit)) (standingAt r k) (λ i d. may-stand k i a b d))))

@@ -1,6 +1,6 @@
 -- Small runs and texts: what is printed of them, and what it should be, byte by byte. Proved as
 -- `checked` in proofs/Cases.
-use mathlib.Core.Bool.{false}
+use mathlib.Core.Bool.{true, false}
 use mathlib.Core.List.{List, [], _∷_, _++_}
 use Prim.Native.Nat.{ℕ}
 use lib.ListN.{replicate}
@@ -8,7 +8,7 @@ use Rattle.declare.specs.declared.Standing.{Standing}
 use Rattle.declare.specs.declared.Standing.the-variants.{Idle, Open, Fulfilled, Violated}
 use Rattle.declare.specs.EdgeCycles.{event}
 use Rattle.run.specs.declared.Run.{Run}
-use Rattle.run.specs.Cases.{Case, _is_, AsExpected, coded, recordOf}
+use Rattle.run.specs.Cases.{Case, _is_, AsExpected, coded, recordWith, recordOf}
 use Rattle.notebook.specs.declared.Text.the-variants.{Rules, Cycle}
 use Rattle.notebook.specs.Notebook.{readAs, notRead}
 use Rattle.printing.specs.Lines.{PrintedLine, activationLine, totalLine, refusedLine, rulesWord, cycleWord}
@@ -51,6 +51,11 @@ abbrev pub twoDigits : List ℕ
 twoDigits =
     49 ∷ 9 ∷ 49 ∷ 50 ∷ 9 ∷ 86 ∷ 9 ∷ 49 ∷ 48 ∷ 10 ∷ 116 ∷ 111 ∷ 116 ∷ 97 ∷ 108 ∷ 9 ∷ 49 ∷ 9 ∷ 49 ∷ 9 ∷ 48 ∷ 9 ∷ 49 ∷ 10 ∷ []
 
+-- 1 0 F 3, total 1 1 1 0
+abbrev pub cycleFulfilled : List ℕ
+cycleFulfilled =
+    49 ∷ 9 ∷ 48 ∷ 9 ∷ 70 ∷ 9 ∷ 51 ∷ 10 ∷ 116 ∷ 111 ∷ 116 ∷ 97 ∷ 108 ∷ 9 ∷ 49 ∷ 9 ∷ 49 ∷ 9 ∷ 49 ∷ 9 ∷ 48 ∷ 10 ∷ []
+
 unfoldable pub reports : List (Case (List ℕ))
 reports =
     -- rule by rule, an open activation too, and a rule without activations
@@ -60,6 +65,8 @@ reports =
     ∷ reportOf (runOf 1 2 standings) is (opened ++ openTotals)
     ∷ reportOf (runOf 1 12 (replicate 11 Idle ++ (Violated 10 ∷ []))) is twoDigits
     ∷ reportOf (runOf 0 4 standings) is []
+    -- a rule about the cycle: position 0; of another rule it is not printed
+    ∷ reportOf (recordWith true (coded 13 ∷ coded 9 ∷ []) 2 (replicate 16 (event 0 1)) 4 [] (Fulfilled 3 ∷ Fulfilled 3 ∷ [])) is (cycleFulfilled ++ noTotals)
     ∷ []
 
 -- a text of one byte lacks LF: 12 in line 1

@@ -13,7 +13,7 @@ use Rattle.printing.specs.Report.{reportOf, printedOf}
 
 -- the most bytes that are printed: 16 rules of 256 lines of 13 bytes and one of 21
 abbrev pub printedBytes : ℕ
-printedBytes = 53584
+printedBytes = 53792
 
 -- the call write_report: its answer, and what it leaves
 abbrev pub writeReportOf : Run → List ℕ → Answer ℕ

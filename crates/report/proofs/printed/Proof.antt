@@ -1,4 +1,4 @@
--- What is printed has at most 53584 bytes, so the buffer has room for it.
+-- What is printed has at most 53792 bytes, so the buffer has room for it.
 use mathlib.Core.Path.{_≡_, refl}
 use mathlib.Core.Bool.{true}
 use mathlib.Core.List.{List}
@@ -43,14 +43,14 @@ returns : tie.Need-returns
 returns c =
     let call = c .before .before .before in
     let w = call .print-texts .ensures in
-    let room : length (call .before .before .before .before .args .out .now) ≡ 53584 = search needs in
+    let room : length (call .before .before .before .before .args .out .now) ≡ 53792 = search needs in
     front _ _ _ _ _ (omega arith) (w .writes) (c .before .length .given .1)
 
 returns-2 : tie.Need-returns-2
 returns-2 c =
     let call = c .before .before in
     let w = call .print-texts .ensures in
-    let room : length (call .before .before .before .before .args .out .now) ≡ 53584 = search needs in
+    let room : length (call .before .before .before .before .args .out .now) ≡ 53792 = search needs in
     absurd (never _ _ _ _ _ (omega arith) (w .writes) (c .enum-told .given .1))
 
 pub printed-spec : {M : Type 1} → statement M

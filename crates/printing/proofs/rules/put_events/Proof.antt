@@ -70,17 +70,25 @@ loop-again c =
 put-total-requires : tie.Need-put-total-requires Inv-loop μ-loop
 put-total-requires c κs = search needs
 
--- what the loop began with
-begun : (c : tie.After-with-standing Inv-loop μ-loop) → let a = c .before .before .args in
-    c .with-standing .result ≡ totalsBy (withZero (a .zero) (standingFrom (a .cells) (a .first))) 0
+-- what the loop began with, and so what it has
+begun : (c : tie.At-loop Inv-loop μ-loop) → let a = c .before .before .before .before .args in
+    PutLines (eventLines (a .rule) (withZero (a .zero) (standingFrom (a .t7) (a .first))) (c .loop .p)) (a .out .now) (a .start) (c .loop .out) (c .loop .at)
+    × (c .loop .totals ≡ totalsBy (withZero (a .zero) (standingFrom (a .t7) (a .first))) (c .loop .p))
 unfolding withZero
-begun c = ?
+begun c =
+    let a = c .before .before .before .before .args in
+    let row = withZero (a .zero) (standingFrom (a .t7) (a .first)) in
+    c .loop .inv .1 (a .zero) (c .before .with-standing .ensures ∙ ap (λ t. withStanding t (a .zero)) (c .before .before .no-totals .ensures) ∙ totals-first row)
 
 same-length : tie.Need-same-length Inv-loop μ-loop
-same-length c = ?
+same-length c = puts-length (c .before .before .put-total .ensures) ∙ puts-length (begun (c .before .before .before .before .before) .0)
 
 returns : tie.Need-returns Inv-loop μ-loop
-returns c = ?
+returns c =
+    let last = c .before .before in
+    let loop = last .before .before .before .loop in
+    let all : loop .p ≡ last .before .before .before .before .before .before .before .args .count = omega arith in
+    rw (← all) (then-totals _ _ (loop .p) _ (begun (last .before .before .before) .1) (begun (last .before .before .before) .0) (last .put-total .ensures))
 
 pub put-events-spec : {M : Type 1} → statement M
 put-events-spec =
