@@ -4,7 +4,7 @@ use mathlib.Core.Path.{_≡_, refl, ap}
 use mathlib.Core.Logic.{_⊎_, inl, inr}
 use mathlib.Core.Bool.{Bool, true, false}
 use mathlib.Core.List.{List, [], _∷_, _++_}
-use Prim.Native.Nat.{ℕ, zero, suc, _+_, _*_, _≤_, _<_}
+use Prim.Native.Nat.{ℕ, zero, suc, _+_, _*_, _≤_, _<_, zero-le}
 use native.Mathlib.Omega.{arith}
 use borrow.Author.Tests.{leb-true, leb-false}
 use lib.Dec.{leb}
@@ -14,7 +14,7 @@ use Rattle.declare.specs.declared.Standing.the-variants.{Idle, Open, Fulfilled,
 use Rattle.run.specs.declared.Run.{Run}
 use Rattle.run.specs.Records.{standingAt, totalsIn}
 use Rattle.printing.specs.Lines.{PrintedLine, activationLine, totalLine, refusedLine}
-use Rattle.printing.specs.Report.{positionLines, linesUpTo, activationLines, totalOf, ruleLines, reportLines}
+use Rattle.printing.specs.Report.{positionLines, linesUpTo, eventLines, activationLines, totalOf, ruleLines, reportLines}
 use Rattle.demands.proofs.Places.{At, here, at-left, at-right, Past, at-either, at-below, at-none, at-single}
 
 -- ---- which lines there are
@@ -58,7 +58,6 @@ position-at k i (Violated j) q l a = ap (λ x. x ∷ []) (at-single a)
 -- the line of a position under rule k, or its total
 pub record PositionLine (r : Run) (k : ℕ) (l : PrintedLine) : Type 0 where
   pub position : ℕ
-  pub low : 1 ≤ position
   pub high : position ≤ r .count
   pub line : positionLines k position (standingAt r k position) ≡ l ∷ []
 
@@ -69,14 +68,33 @@ pub record RunLine (r : Run) (l : PrintedLine) : Type 0 where
   pub line : PositionLine r rule l ⊎ (totalOf rule (totalsIn r rule) ≡ l)
 
 module _ (r : Run) (l : PrintedLine) where
+  -- position 0, or one of the events
+  position-line : (k p : ℕ) → At (activationLines k (standingAt r k) (r .count)) p l → PositionLine r k l
+  unfolding activationLines eventLines
+  position-line k p a = go (at-either (positionLines k 0 (standingAt r k 0)) a)
+    where
+      go : At (positionLines k 0 (standingAt r k 0)) p l ⊎ Past (positionLines k 0 (standingAt r k 0)) (linesUpTo (λ i. positionLines k i (standingAt r k i)) (r .count)) p l → PositionLine r k l
+      go (inl b) = record { position = 0; high = zero-le; line = position-at k 0 (standingAt r k 0) p l b }
+      go (inr b) =
+          let w = up-to-at (λ i. positionLines k i (standingAt r k i)) l (r .count) (b .after) (b .stands) in
+          record { position = w .number; high = w .high; line = position-at k (w .number) _ (w .place) l (w .stands) }
+
+  line-position : (k : ℕ) → PositionLine r k l → (q : ℕ) × At (activationLines k (standingAt r k) (r .count)) q l
+  unfolding activationLines eventLines
+  line-position k w = go (w .position) (w .high) (rw (w .line) here)
+    where
+      go : (i : ℕ) → i ≤ r .count → At (positionLines k i (standingAt r k i)) 0 l → (q : ℕ) × At (positionLines k 0 (standingAt r k 0) ++ linesUpTo (λ i. positionLines k i (standingAt r k i)) (r .count)) q l
+      go zero b a = (0, at-left _ a)
+      go (suc i) b a =
+          let d = at-up-to (λ i. positionLines k i (standingAt r k i)) l (r .count) (suc i) 0 (omega arith) b a in
+          (_, at-right (positionLines k 0 (standingAt r k 0)) (d .1))
+
   rule-line : (k p : ℕ) → At (ruleLines k (standingAt r k) (r .count)) p l → PositionLine r k l ⊎ (totalOf k (totalsIn r k) ≡ l)
-  unfolding ruleLines activationLines
+  unfolding ruleLines
   rule-line k p a = go (at-either (activationLines k (standingAt r k) (r .count)) a)
     where
       go : At (activationLines k (standingAt r k) (r .count)) p l ⊎ Past (activationLines k (standingAt r k) (r .count)) (totalOf k (totalsIn r k) ∷ []) p l → PositionLine r k l ⊎ (totalOf k (totalsIn r k) ≡ l)
-      go (inl b) =
-          let w = up-to-at (λ i. positionLines k i (standingAt r k i)) l (r .count) p b in
-          inl (record { position = w .number; low = w .low; high = w .high; line = position-at k (w .number) _ (w .place) l (w .stands) })
+      go (inl b) = inl (position-line k p b)
       go (inr b) = inr (at-single (b .stands))
 
   pub report-line : (p : ℕ) → At (reportLines r) p l → RunLine r l
@@ -86,11 +104,8 @@ module _ (r : Run) (l : PrintedLine) where
       record { rule = w .number; low = w .low; high = w .high; line = rule-line (w .number) (w .place) (w .stands) }
 
   line-rule : (k : ℕ) → PositionLine r k l ⊎ (totalOf k (totalsIn r k) ≡ l) → (q : ℕ) × At (ruleLines k (standingAt r k) (r .count)) q l
-  unfolding ruleLines activationLines
-  line-rule k (inl w) =
-      let first : At (positionLines k (w .position) (standingAt r k (w .position))) 0 l = rw (w .line) here in
-      let d = at-up-to (λ i. positionLines k i (standingAt r k i)) l (r .count) (w .position) 0 (w .low) (w .high) first in
-      (d .0, at-left _ (d .1))
+  unfolding ruleLines
+  line-rule k (inl w) = let d = line-position k w in (d .0, at-left _ (d .1))
   line-rule k (inr e) = (_, at-right {p = 0} (activationLines k (standingAt r k) (r .count)) (rw e here))
 
   pub line-report : RunLine r l → (p : ℕ) × At (reportLines r) p l
@@ -170,7 +185,12 @@ pub report-rises : (r : Run) → r .count ≤ 256 → Rising 1000 (suc (r .table
 unfolding reportLines
 report-rises r few = rising-up-to _ (λ k. k * 1000) (λ k. omega arith) (r .table .count) (λ k a b. rule k)
   where
+    positions : (k : ℕ) → Rising (k * 1000 + 0) (k * 1000 + suc (r .count)) (activationLines k (standingAt r k) (r .count))
+    positions k =
+        unfold activationLines eventLines in
+        rising-append _ _ (omega arith) (omega arith) (rising-position k 0 (standingAt r k 0)) (rising-up-to _ (λ i. k * 1000 + i) (λ i. omega arith) (r .count) (λ i a b. rising-position k i (standingAt r k i)))
+
     rule : (k : ℕ) → Rising (k * 1000) (suc k * 1000) (ruleLines k (standingAt r k) (r .count))
     rule k =
-        unfold ruleLines activationLines totalOf in
-        wider (omega arith) (omega arith) (rising-append _ _ (omega arith) (omega arith) (rising-up-to _ (λ i. k * 1000 + i) (λ i. omega arith) (r .count) (λ i a b. rising-position k i (standingAt r k i))) (rising-one (k * 1000 + suc (r .count)) (k * 1000 + 1000) _ (omega arith) (omega arith)))
+        unfold ruleLines totalOf in
+        wider (omega arith) (omega arith) (rising-append _ _ (omega arith) (omega arith) (positions k) (rising-one (k * 1000 + suc (r .count)) (k * 1000 + 1000) _ (omega arith) (omega arith)))

@@ -5,7 +5,7 @@ use mathlib.Core.Path.{_≡_}
 use mathlib.Core.Logic.{_↔_, _⊎_}
 use mathlib.Core.Bool.{true, false}
 use mathlib.Core.List.{List, []}
-use Prim.Native.Nat.{ℕ, _+_, _≤_, _<_}
+use Prim.Native.Nat.{ℕ, suc, _≤_, _<_}
 use lib.ListN.{length, getD, take}
 use Rattle.declare.specs.declared.Event.{Event}
 use Rattle.declare.specs.declared.Rule.{Rule}
@@ -51,7 +51,8 @@ pub record LineIs (text : List ℕ) (p : ℕ) (fields : List (List ℕ)) : Type 
 abbrev pub Tells : ℕ → ℕ → Standing → Type 0
 Tells letter j s = ((letter ≡ letterF) × (s ≡ Fulfilled j)) ⊎ ((letter ≡ letterV) × (s ≡ Violated j))
 
--- "rule, position, F or V, target": position i is an activation of rule k, with that verdict
+-- "rule, position, F or V, target": position i is an activation of rule k, with that verdict; of a
+-- rule about the cycle position 0 is
 pub record VerdictLine (t : Table) (es : List Event) (k i letter j : ℕ) : Type 0 where
   pub place : InCycle t es k i
   pub activation : activationAt (ruleAt t k) es i ≡ true
@@ -61,7 +62,7 @@ pub record VerdictLine (t : Table) (es : List Event) (k i letter j : ℕ) : Type
 pub record TotalLine (t : Table) (es : List Event) (k a f v : ℕ) : Type 0 where
   pub low : 1 ≤ k
   pub high : k ≤ t .count
-  pub activations : a ≡ countBelow (λ p. activationAt (ruleAt t k) es (p + 1)) (length es)
+  pub activations : a ≡ countBelow (activationAt (ruleAt t k) es) (suc (length es))
   pub fulfilled : f ≡ positionsOf isFulfilled (verdict (ruleAt t k) es) (length es)
   pub violated : v ≡ positionsOf isViolated (verdict (ruleAt t k) es) (length es)
 
