@@ -27,7 +27,7 @@ use Rattle.run.specs.Records.{eventsOf, horizonOf, totalsIn, validRun}
 use Rattle.run.specs.Start.{startOf}
 use Rattle.run.specs.Take.{takeOf}
 use Rattle.run.specs.Close.{closeOf}
-use Rattle.run.specs.Queries.{oneOf, standingOf, totalsOf}
+use Rattle.run.specs.Queries.{oneOf, isPosition, standingOf, totalsOf}
 use Rattle.tally.specs.declared.Tally.{Tally}
 use Rattle.tally.specs.declared.Counted.{Counted}
 use Rattle.tally.specs.declared.Outcome.{Outcome}
@@ -82,7 +82,7 @@ module _ (r : Run) where
     has-standing : (position : ℕ) → Has (standingOf r rule position) (standingCauses r rule position)
     unfolding standingOf standingCauses numberOf
     has-standing position =
-        has-one (validRun r) InvalidRecord 11 _ _ refl (has-one (oneOf (r .table .count) rule && oneOf (r .count) position) NotFound 10 _ [] refl (has-none _))
+        has-one (validRun r) InvalidRecord 11 _ _ refl (has-one (oneOf (r .table .count) rule && isPosition (r .table) (r .count) rule position) NotFound 10 _ [] refl (has-none _))
 
     has-totals : Has (totalsOf r rule) (totalsCauses r rule)
     unfolding totalsOf totalsCauses numberOf

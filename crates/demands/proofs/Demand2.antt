@@ -11,14 +11,14 @@ use Rattle.declare.specs.declared.Table.{Table}
 use Rattle.declare.specs.declared.Standing.{Standing}
 use Rattle.declare.specs.declared.Standing.the-variants.{Idle}
 use Rattle.declare.specs.Limits.{mostRules}
-use Rattle.declare.specs.Rules.{isTemplate, validHead, validRule, ruleAt, validTable}
+use Rattle.declare.specs.Rules.{ruleAt, validTable}
 use Rattle.declare.specs.Slots.{tableOf}
 use Rattle.declare.specs.Suits.{activationAt}
 use Rattle.declare.specs.Verdicts.{verdict}
 use Rattle.declare.specs.Standings.{isIdle}
 use Rattle.declare.specs.Words.{Names, targetIn}
 use Rattle.declare.specs.Steps.{Cycle, taken}
-use Rattle.declare.proofs.Booleans.{and₃, and₄}
+use Rattle.declare.proofs.Arrival.{rule-parts}
 use Rattle.declare.proofs.Words.{judged}
 use Rattle.declare.proofs.Exactness.{verdict-active}
 use Rattle.declare.proofs.Tables.{rule-valid}
@@ -32,6 +32,7 @@ use Rattle.declare.specs.Answers.{accepted}
 use Rattle.run.specs.Close.{closedRun}
 use Rattle.run.specs.Queries.{standingOf}
 use Rattle.run.specs.Takes.{grown, Answers, finished}
+use Rattle.run.proofs.Answered.{position-within}
 use Rattle.run.proofs.Takes.{takes}
 use Rattle.run.proofs.Grown.{finished-is-grown}
 use Rattle.cycle_text.proofs.RoundTrips.{round-trips as cycle-trips}
@@ -41,17 +42,13 @@ use Rattle.notebook.proofs.Read.{read-table, read-slots}
 use Rattle.demands.specs.Demand2.{Decides, FollowsFormulas, Demand2Grown, Demand2Read}
 use Rattle.demands.proofs.Standings.{stands-as, stands-so, stands-fulfilled, stands-violated}
 
-valid-code : (r : Rule) → validRule r ≡ true → isTemplate (r .code) ≡ true
-unfolding validRule validHead
-valid-code r v = and₄ (and₃ v .0) .0
-
 -- not idle exactly if it is an activation
 idle-is : (r : Rule) (es : List Event) (i : ℕ) → (verdict r es i ≡ Idle) ↔ (activationAt r es i ≡ false)
 unfolding verdict
 idle-is r es i = ((λ e. sym (verdict-active r es i) ∙ ap (λ (s : Standing). not (isIdle s)) e), (λ e. rw e))
 
 -- any closed run that answers with the verdicts
-pub follows : (t : Table) (es : List Event) (r : Run) → length (t .rules) ≡ mostRules → validTable t ≡ true → Cycle es → Answers t es (finished es) r → FollowsFormulas t es r
+pub follows : (t : Table) (es : List Event) (r : Run) → length (t .rules) ≡ mostRules → validTable t ≡ true → Cycle es → Answers t es (finished t es) r → FollowsFormulas t es r
 follows t es r slots valid cycle answers k i w =
     record {
       verdicts = answer;
@@ -65,15 +62,14 @@ follows t es r slots valid cycle answers k i w =
     rule = ruleAt t k
 
     answer : standingOf r k i ≡ accepted (verdict (ruleAt t k) es i)
-    answer = answers .standing k i (w .rule-low) (w .rule-high) (w .position-low) (w .position-high)
+    answer = answers .standing k i (w .rule-low) (w .rule-high) (w .position)
 
     activated : activationAt (ruleAt t k) es i ≡ true → Activated (ruleAt t k) es i
     activated e =
         record {
-          template = valid-code (ruleAt t k) (rule-valid t slots valid k (w .rule-low) (w .rule-high));
+          template = rule-parts (ruleAt t k) (rule-valid t slots valid k (w .rule-low) (w .rule-high)) .template;
           falls = cycle .order;
-          low = w .position-low;
-          high = w .position-high;
+          high = position-within t (length es) k i (w .position);
           active = e;
         }
 
@@ -100,9 +96,9 @@ demand2-read rulesText cycleText rules es p q = (closedRun (grown (tableOf rules
     valid : validTable (tableOf rules) ≡ true
     valid = read-table rulesText rules p
 
-    answers : Answers (tableOf rules) es (finished es) (closedRun (grown (tableOf rules) es))
+    answers : Answers (tableOf rules) es (finished (tableOf rules) es) (closedRun (grown (tableOf rules) es))
     answers =
-        subst (λ (l : List Event). Answers (tableOf rules) l (finished l) (closedRun (grown (tableOf rules) es))) (taken-cycle es cycle)
+        subst (λ (l : List Event). Answers (tableOf rules) l (finished (tableOf rules) l) (closedRun (grown (tableOf rules) es))) (taken-cycle es cycle)
         (takes (tableOf rules) es slots valid .closed-answers)
 
     read : notebookOf rulesText cycleText ≡ readAs (closedRun (grown (tableOf rules) es))

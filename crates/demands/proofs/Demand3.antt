@@ -1,9 +1,11 @@
 -- The claim over a list of takes, and the exactness of early verdicts for the list of taken events.
-use mathlib.Core.Path.{_≡_, sym, ap, subst, _∙_}
-use mathlib.Core.Bool.{true}
+use mathlib.Core.Path.{_≡_, refl, sym, ap, subst, _∙_}
+use mathlib.Core.Bool.{Bool, true, false}
 use mathlib.Core.List.{List, map}
-use Prim.Native.Nat.{ℕ, _≤_}
+use Prim.Native.Nat.{ℕ, zero, suc, _≤_, _<_, zero-le}
 use native.Mathlib.Omega.{arith}
+use borrow.Author.Tests.{leb-true, leb-false}
+use lib.Dec.{leb}
 use lib.ListN.{length}
 use Rattle.declare.specs.declared.Event.{Event}
 use Rattle.declare.specs.declared.Rule.{Rule}
@@ -11,17 +13,25 @@ use Rattle.declare.specs.declared.Table.{Table}
 use Rattle.declare.specs.Verdicts.{verdict}
 use Rattle.line.specs.Texts.{All}
 use Rattle.rule_text.specs.Rules.{rulesTextOf}
-use Rattle.declare.specs.Rules.{ruleAt, rulesOf, validTable}
+use Rattle.declare.specs.Overall.{isOverall}
+use Rattle.declare.specs.Rules.{ruleAt, rulesOf, isOverallRule, validTable}
+use Rattle.declare.specs.Answers.{_>>_, require}
 use Rattle.declare.specs.Steps.{Cycle, taken}
 use Rattle.declare.specs.Limits.{mostRules}
+use Rattle.declare.proofs.Booleans.{and₂}
 use Rattle.declare.proofs.Steps.{cycle-of-taken, taken-cycle}
 use Rattle.declare.proofs.Tables.{rules-within, rule-valid, table-slots, table-valid}
-use Rattle.standings.proofs.Same.{same-cells}
+use Rattle.standings.specs.Places.{zeroIn}
+use Rattle.standings.specs.Totals.{positionsOf, totalsBy}
+use Rattle.standings.proofs.Places.{from-one}
+use Rattle.standings.proofs.Same.{same-cells, same-overall}
 use Rattle.run.specs.declared.Run.{Run}
-use Rattle.run.specs.Records.{validRun}
+use Rattle.run.specs.Records.{standingAt, validRun}
 use Rattle.run.specs.Close.{closedRun}
-use Rattle.run.specs.Queries.{standingOf, totalsOf}
+use Rattle.run.specs.Queries.{isPosition, standingOf, totalsOf}
 use Rattle.run.specs.Takes.{grown, running, finished, RunOf, Answers}
+use Rattle.run.proofs.Places.{overall-rule, no-rule, zero-overall}
+use Rattle.run.proofs.Answered.{position-within}
 use Rattle.run.proofs.Takes.{takes}
 use Rattle.run.proofs.Grown.{finished-is-grown}
 use Rattle.cycle_text.specs.Written.{eventsText}
@@ -38,22 +48,35 @@ use Rattle.notebook.proofs.Replies.{accepted-texts}
 use Rattle.demands.proofs.Early.{early-at}
 use Rattle.demands.specs.Demand3.{EarlyVerdicts, Bytes, ReadBack, EveryTable}
 
-early : (t : Table) (es : List Event) (r : Run) → length (t .rules) ≡ mostRules → validTable t ≡ true → Cycle es → Answers t es (running es) r → EarlyVerdicts t es r
+early : (t : Table) (es : List Event) (r : Run) → length (t .rules) ≡ mostRules → validTable t ≡ true → Cycle es → Answers t es (running t es) r → EarlyVerdicts t es r
 early t es r slots valid cycle answers k i w =
-    early-at (ruleAt t k) es r k i (rule-valid t slots valid k (w .rule-low) (w .rule-high)) (cycle .formed) (cycle .order) (w .position-low) (w .position-high)
-    (answers .standing k i (w .rule-low) (w .rule-high) (w .position-low) (w .position-high))
+    early-at (ruleAt t k) es r k i (rule-valid t slots valid k (w .rule-low) (w .rule-high)) (cycle .formed) (cycle .order) (position-within t (length es) k i (w .position))
+    (answers .standing k i (w .rule-low) (w .rule-high) (w .position))
 
 -- ---- the notebook
 
--- two valid runs with as many rules and events and the same cells answer alike
-module _ (q r : Run) (valid-q : validRun q ≡ true) (valid-r : validRun r ≡ true) (rules : q .table .count ≡ r .table .count) (events : q .count ≡ r .count) (cells : q .cells ≡ r .cells) where
+-- two valid runs with as many rules and events, the same rules about the cycle and the same cells
+-- answer alike
+record Alike (q r : Run) : Type 0 where
+  left : validRun q ≡ true
+  right : validRun r ≡ true
+  rules : q .table .count ≡ r .table .count
+  about : (k : ℕ) → 1 ≤ k → isOverallRule (q .table) k ≡ isOverallRule (r .table) k
+  events : q .count ≡ r .count
+  cells : q .cells ≡ r .cells
+  overall : q .overall ≡ r .overall
+
+-- there is no rule 0
+module _ (q r : Run) (s : Alike q r) where
   same-standing : (k i : ℕ) → standingOf q k i ≡ standingOf r k i
-  unfolding standingOf
-  same-standing k i = rw (valid-q, valid-r, rules, events, cells)
+  unfolding standingOf isPosition zeroIn _>>_ require
+  same-standing zero i = rw (s .left, s .right) refl
+  same-standing (suc k) i = rw (s .left, s .right, s .about (suc k) (omega arith), s .rules, s .events, s .cells, s .overall)
 
   same-totals : (k : ℕ) → totalsOf q k ≡ totalsOf r k
-  unfolding totalsOf
-  same-totals k = rw (valid-q, valid-r, rules, events, cells)
+  unfolding totalsOf totalsBy positionsOf zeroIn _>>_ require
+  same-totals zero = rw (s .left, s .right) refl
+  same-totals (suc k) = rw (s .left, s .right, s .about (suc k) (omega arith), s .rules, s .events, s .cells, s .overall)
 
 module _ (t : Table) (offered : List Event) (slots : length (t .rules) ≡ mostRules) (valid : validTable t ≡ true) where
   abbrev es : List Event
@@ -96,28 +119,62 @@ module _ (t : Table) (offered : List Event) (slots : length (t .rules) ≡ mostR
       accepted-texts (rulesText (rulesOf t)) (eventsText es) (map canonical (rulesOf t)) es read-rules (cycle-trips .read es cycle)
       ∙ ap readAs (finished-is-grown u u-slots u-valid es cycle)
 
-  read-run : RunOf u es true (finished es) read
+  read-run : RunOf u es true (finished u es) read
   read-run =
-      subst (λ (l : List Event). RunOf u l true (finished l) read) (taken-cycle es cycle) (takes u es u-slots u-valid .closed-run)
+      subst (λ (l : List Event). RunOf u l true (finished u l) read) (taken-cycle es cycle) (takes u es u-slots u-valid .closed-run)
 
-  closed : RunOf t es true (finished es) (closedRun (grown t offered))
+  closed : RunOf t es true (finished t es) (closedRun (grown t offered))
   closed = takes t offered slots valid .closed-run
 
   count : u .count ≡ t .count
   count = same-count t slots few
+
+  alike : (k i : ℕ) → 1 ≤ k → k ≤ t .count → i ≤ length es → standingAt read k i ≡ standingAt (closedRun (grown t offered)) k i
+  alike k i a b d =
+      read-run .standings k i a (rw count b) d
+      ∙ ap (λ (rule : Rule). verdict rule es i) (canonical-rule t slots few k a b)
+      ∙ canonical-verdict (ruleAt t k) es i
+      ∙ sym (closed .standings k i a b d)
 
   cells : read .cells ≡ closedRun (grown t offered) .cells
   cells =
       same-cells (t .count) (length es) (read .cells) (closedRun (grown t offered) .cells)
       (record { size = read-run .cells; idle = λ j h e. read-run .idle j h (rw count e) })
       (record { size = closed .cells; idle = closed .idle })
-      (λ k i a b c d. read-run .standings k i a (rw count b) c d ∙ ap (λ (rule : Rule). verdict rule es i) (canonical-rule t slots few k a b) ∙ canonical-verdict (ruleAt t k) es i ∙ sym (closed .standings k i a b c d))
+      (λ k i a b c d. sym (from-one _ _ i c) ∙ alike k i a b d ∙ from-one _ _ i c)
 
-  tables : read .table .count ≡ closedRun (grown t offered) .table .count
-  tables = ap (λ (x : Table). x .count) (read-run .table) ∙ count ∙ sym (ap (λ (x : Table). x .count) (closed .table))
+  -- the same rules are about the cycle
+  same-rule : (k : ℕ) → 1 ≤ k → isOverallRule u k ≡ isOverallRule t k
+  same-rule k a = go (leb k (t .count)) refl
+    where
+      go : (b : Bool) → leb k (t .count) ≡ b → isOverallRule u k ≡ isOverallRule t k
+      go true e =
+          let l : k ≤ t .count = leb-true k (t .count) e in
+          overall-rule u k (rw count l)
+          ∙ unfold canonical in ap (λ (rule : Rule). isOverall (rule .code)) (canonical-rule t slots few k a l)
+          ∙ sym (overall-rule t k l)
+      go false e =
+          let l : t .count < k = leb-false k (t .count) e in
+          no-rule u k (rw count l) ∙ sym (no-rule t k l)
 
-  counts : read .count ≡ closedRun (grown t offered) .count
-  counts = read-run .count ∙ sym (closed .count)
+  overall : read .overall ≡ closedRun (grown t offered) .overall
+  overall =
+      same-overall (isOverallRule t) (read .overall) (closedRun (grown t offered) .overall) (read-run .overall) (closed .overall)
+      (λ k a b o. read-run .others k a b (same-rule k a ∙ o)) (closed .others)
+      (λ k a b o.
+      sym (zero-overall read k (rw (read-run .table) (same-rule k a ∙ o))) ∙ alike k 0 a (unfold isOverallRule in leb-true k (t .count) (and₂ o .0)) zero-le ∙ zero-overall (closedRun (grown t offered)) k (rw (closed .table) o))
+
+  same : Alike read (closedRun (grown t offered))
+  same =
+      record {
+        left = read-run .valid;
+        right = closed .valid;
+        rules = rw (read-run .table, closed .table) count;
+        about = λ k a. rw (read-run .table, closed .table) (same-rule k a);
+        events = read-run .count ∙ sym (closed .count);
+        cells = cells;
+        overall = overall;
+      }
 
   notebook : ReadBack t offered read
   notebook =
@@ -127,8 +184,9 @@ module _ (t : Table) (offered : List Event) (slots : length (t .rules) ≡ mostR
         reply = reply;
         run = read-run;
         cells = cells;
-        standing = same-standing read (closedRun (grown t offered)) (read-run .valid) (closed .valid) tables counts cells;
-        totals = same-totals read (closedRun (grown t offered)) (read-run .valid) (closed .valid) tables counts cells;
+        overall = overall;
+        standing = same-standing read (closedRun (grown t offered)) same;
+        totals = same-totals read (closedRun (grown t offered)) same;
       }
 
 pub demand3 : EveryTable

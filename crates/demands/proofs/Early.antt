@@ -1,15 +1,15 @@
 -- Early verdicts in the answers' own words. The exactness of standings covers activations; of any
--- other event every continuation leaves it idle. After a take on any valid record a standing is
+-- other position every continuation leaves it idle. After a take on any valid record a standing is
 -- carried over or judged from the events now in it.
 use mathlib.Core.Path.{_≡_, refl, sym, ap, subst, _∙_}
 use mathlib.Core.Logic.{_↔_}
-use mathlib.Core.Bool.{Bool, true, false, not, true≢false, false≢true}
+use mathlib.Core.Bool.{Bool, true, false, not, _||_, true≢false, false≢true}
 use mathlib.Core.List.{List, [], _++_, append-nil}
-use Prim.Native.Nat.{ℕ, _+_, _≤_, _<_}
+use Prim.Native.Nat.{ℕ, zero, suc, _+_, _≤_, _<_}
 use native.Mathlib.Omega.{arith}
-use borrow.Author.Tests.{leb-true, leb-false, ltb-true}
+use borrow.Author.Tests.{le-leb, leb-true, leb-false, ltb-true}
 use lib.Dec.{leb}
-use lib.ListN.{length, set, length-take}
+use lib.ListN.{length, set, length-set, length-take}
 use Rattle.declare.specs.declared.Event.{Event}
 use Rattle.declare.specs.declared.Rule.{Rule}
 use Rattle.declare.specs.declared.Standing.{Standing}
@@ -17,7 +17,8 @@ use Rattle.declare.specs.declared.Standing.the-variants.{Idle, Open, Fulfilled,
 use Rattle.declare.specs.Lists.{all}
 use Rattle.declare.specs.Limits.{mostRules, mostEvents}
 use Rattle.declare.specs.Events.{wellFormed, nonFalling, lastTime}
-use Rattle.declare.specs.Rules.{validRule, ruleAt}
+use Rattle.declare.specs.Overall.{isOverall}
+use Rattle.declare.specs.Rules.{validRule, ruleAt, isOverallRule}
 use Rattle.declare.specs.Suits.{activationAt}
 use Rattle.declare.specs.Standings.{isIdle, isFulfilled, isViolated, isDecided}
 use Rattle.declare.specs.Verdicts.{verdict}
@@ -27,6 +28,7 @@ use Rattle.declare.specs.Answers.{accepted}
 use Rattle.declare.specs.Steps.{Cycle, carried}
 use Rattle.declare.specs.Exactness.{InEvery, ExactAt}
 use Rattle.declare.specs.Words.{Names, targetIn}
+use Rattle.declare.proofs.Booleans.{and-right, both}
 use Rattle.declare.proofs.Extension.{activation-same}
 use Rattle.declare.proofs.Exactness.{none-added, exactness, idle-elsewhere, verdict-active}
 use Rattle.declare.proofs.Words.{judged}
@@ -36,25 +38,25 @@ use Rattle.declare.proofs.Tables.{rule-valid}
 use Rattle.run.specs.declared.Run.{Run}
 use Rattle.run.specs.Records.{eventsOf, horizonOf, standingAt, validRun, Sized}
 use Rattle.run.specs.Take.{appended, judgedRun}
-use Rattle.run.specs.Queries.{standingOf}
+use Rattle.run.specs.Queries.{isPosition, standingOf}
 use Rattle.run.proofs.Guards.{Taken, taken-by}
 use Rattle.run.proofs.Bounds.{valid-parts}
-use Rattle.run.proofs.Places.{judged-standing, standings-each}
-use Rattle.run.proofs.Answered.{standing-found, standing-is, valid-cycle}
-use Rattle.run.proofs.Validity.{at-idle, taken-run-valid}
+use Rattle.run.proofs.Places.{judged-standing, validHere, standings-each}
+use Rattle.run.proofs.Answered.{standing-found, standing-is, position-within, valid-cycle}
+use Rattle.run.proofs.Validity.{at-idle, here-idle, here-event, taken-run-valid}
 use Rattle.demands.specs.Demand2.{InCycle}
 use Rattle.demands.specs.Demand3.{Early, TakenFrom, EveryRecord}
 use Rattle.demands.proofs.Standings.{stands-as, stands-so, stands-fulfilled, stands-violated}
 
--- ---- an event that is no activation
+-- ---- a position that is no activation
 
-module _ (rule : Rule) (es : List Event) (h i : ℕ) (low : 1 ≤ i) (high : i ≤ length es) (none : activationAt rule es i ≡ false) where
+module _ (rule : Rule) (es : List Event) (h i : ℕ) (high : i ≤ length es) (none : activationAt rule es i ≡ false) where
   stands-idle : standing rule es h i ≡ Idle
   stands-idle = idle-elsewhere rule es h i .1 none
 
   stays-idle : (added : List Event) → verdict rule (es ++ added) i ≡ Idle
   unfolding verdict
-  stays-idle added = rw (activation-same rule es added i low high, none)
+  stays-idle added = rw (activation-same rule es added i high, none)
 
   -- a test that an idle position fails passes in no continuation
   never : (p : Standing → Bool) → p Idle ≡ false → (added : List Event) → p (verdict rule (es ++ added) i) ≡ true → ⊥
@@ -75,18 +77,18 @@ module _ (rule : Rule) (es : List Event) (h i : ℕ) (low : 1 ≤ i) (high : i �
       neither : (p : Standing → Bool) → p Idle ≡ false → (p (standing rule es h i) ≡ true) ↔ InEvery p rule es h i
       neither p f = ((λ t. absurd (true≢false (sym t ∙ ap p stands-idle ∙ f))), (λ e. absurd (never p f [] (e [] (none-added h)))))
 
--- ---- any event
+-- ---- any position
 
 last-time : (es : List Event) → lastTime es ≤ horizon es
 unfolding horizon
 last-time es = omega arith
 
-exact-at : (rule : Rule) (es : List Event) (i : ℕ) → validRule rule ≡ true → all wellFormed es ≡ true → nonFalling es ≡ true → 1 ≤ i → i ≤ length es → ExactAt rule es (horizon es) i
-exact-at rule es i v f o low high = go (activationAt rule es i) refl
+exact-at : (rule : Rule) (es : List Event) (i : ℕ) → validRule rule ≡ true → all wellFormed es ≡ true → nonFalling es ≡ true → i ≤ length es → ExactAt rule es (horizon es) i
+exact-at rule es i v f o high = go (activationAt rule es i) refl
   where
     go : (a : Bool) → activationAt rule es i ≡ a → ExactAt rule es (horizon es) i
-    go true e = exactness rule es (horizon es) i v f o (last-time es) low high e
-    go false e = exact-idle rule es (horizon es) i low high e
+    go true e = exactness rule es (horizon es) i v f o (last-time es) high e
+    go false e = exact-idle rule es (horizon es) i high e
 
 decided-open : (s : Standing) → isDecided s ≡ true → s ≡ Open → ⊥
 decided-open s d e = true≢false (sym d ∙ ap isDecided e)
@@ -103,8 +105,8 @@ names-nearest rule es i s e d =
     decided-active (Fulfilled j) q = refl
     decided-active (Violated j) q = refl
 
-pub early-at : (rule : Rule) (es : List Event) (r : Run) (k i : ℕ) → validRule rule ≡ true → all wellFormed es ≡ true → nonFalling es ≡ true → 1 ≤ i → i ≤ length es → standingOf r k i ≡ accepted (standing rule es (horizon es) i) → Early rule es r k i
-early-at rule es r k i v f o low high answer =
+pub early-at : (rule : Rule) (es : List Event) (r : Run) (k i : ℕ) → validRule rule ≡ true → all wellFormed es ≡ true → nonFalling es ≡ true → i ≤ length es → standingOf r k i ≡ accepted (standing rule es (horizon es) i) → Early rule es r k i
+early-at rule es r k i v f o high answer =
     record {
       fulfilled = stands-fulfilled r k i now answer _ (x .fulfilled);
       violated = stands-violated r k i now answer _ (x .violated);
@@ -115,7 +117,7 @@ early-at rule es r k i v f o low high answer =
     }
   where
     x : ExactAt rule es (horizon es) i
-    x = exact-at rule es i v f o low high
+    x = exact-at rule es i v f o high
 
     now : Standing
     now = standing rule es (horizon es) i
@@ -127,12 +129,26 @@ early-at rule es r k i v f o low high answer =
 
 -- ---- after a take on any valid record
 
+-- past the count every rule is idle
+past-idle : (rule : Rule) (over : Bool) (n i : ℕ) (s : Standing) → n < i → validHere over rule n i s ≡ true → isIdle s ≡ true
+past-idle rule over n zero s l h = absurd (omega arith)
+past-idle rule over n (suc i) s l h = go (isOverall (rule .code)) refl
+  where
+    go : (o : Bool) → isOverall (rule .code) ≡ o → isIdle s ≡ true
+    go true e = here-idle rule over n i s e h
+    go false e = at-idle over n (suc i) s l (sym (here-event rule over n i s e) ∙ h)
+
 module _ (r : Run) (e : Event) (size : Sized r) (next : Run) (t : Taken r e next) (valid-next : validRun (judgedRun (appended r e)) ≡ true) where
   abbrev now : Run
   now = judgedRun (appended r e)
 
   few : r .count < mostEvents
   few = ltb-true (r .count) mostEvents (admitted (r .count) (horizonOf r) e (t .admitted) .2)
+
+  next-size : Sized (appended r e)
+  unfolding appended
+  next-size =
+      record { rules = size .rules; events = length-set (r .events) (r .count) e ∙ size .events; cells = size .cells; overall = size .overall }
 
   module _ (k i : ℕ) (w : InCycle (now .table) (eventsOf now) k i) where
     rule : Rule
@@ -147,7 +163,12 @@ module _ (r : Run) (e : Event) (size : Sized r) (next : Run) (t : Taken r e next
 
     i-high : i ≤ r .count + 1
     unfolding judgedRun appended eventsOf
-    i-high = omega (arith, w .position-high, length-take (r .count + 1) (set (r .events) (r .count) e))
+    i-high = omega (arith, position-within (r .table) _ k i (w .position), length-take (r .count + 1) (set (r .events) (r .count) e))
+
+    -- a position is one of any events that reach it
+    position : (n : ℕ) → i ≤ n → isPosition (r .table) n k i ≡ true
+    unfolding judgedRun appended isPosition
+    position n l = both (le-leb i n l) (and-right (leb i (length (eventsOf now))) (leb 1 i || isOverallRule (r .table) k) (w .position))
 
     placed : i ≤ mostEvents
     placed = omega (arith, i-high, few)
@@ -156,9 +177,9 @@ module _ (r : Run) (e : Event) (size : Sized r) (next : Run) (t : Taken r e next
     stands : standingOf now k i ≡ accepted (carried was (standing rule (eventsOf now) (horizonOf now) i))
     unfolding judgedRun appended eventsOf rule was
     stands =
-        standing-found now k i valid-next (w .rule-low) (w .rule-high) (w .position-low) i-high
+        standing-found now k i valid-next (w .rule-low) (w .rule-high) (position (r .count + 1) i-high)
         ∙ ap accepted
-        (judged-standing (appended r e) (size .cells) k i (w .rule-low) (omega (arith, k-high, valid-parts r (t .valid) .rules-fit)) (w .position-low) placed k-high i-high)
+        (judged-standing (appended r e) next-size k (w .rule-low) (omega (arith, k-high, valid-parts r (t .valid) .rules-fit)) i k-high i-high placed)
 
     -- past the count a valid record has no decided standing
     was-undecided : ((s : Standing) → standingOf r k i ≡ accepted s → isDecided s ≡ false) → isDecided was ≡ false
@@ -166,12 +187,12 @@ module _ (r : Run) (e : Event) (size : Sized r) (next : Run) (t : Taken r e next
     was-undecided h = go (leb i (r .count)) refl
       where
         go : (b : Bool) → leb i (r .count) ≡ b → isDecided (standingAt r k i) ≡ false
-        go true p = h (standingAt r k i) (standing-found r k i (t .valid) (w .rule-low) k-high (w .position-low) (leb-true i (r .count) p))
+        go true p = h (standingAt r k i) (standing-found r k i (t .valid) (w .rule-low) k-high (position (r .count) (leb-true i (r .count) p)))
         go false p =
             ap isDecided
             (only-idle (standingAt r k i)
-            (at-idle (r .closed) (r .count) i (standingAt r k i) (leb-false i (r .count) p)
-            (standings-each (r .closed) (r .table .count) (r .count) (r .cells) (valid-parts r (t .valid) .standings) k i (w .rule-low) k-high (w .position-low) placed)))
+            (past-idle (ruleAt (r .table) k) (r .closed) (r .count) i (standingAt r k i) (leb-false i (r .count) p)
+            (standings-each (r .closed) r (valid-parts r (t .valid) .standings) (valid-parts r (t .valid) .overall) k i (w .rule-low) k-high placed)))
 
     taken-from : TakenFrom r now k i
     unfolding was rule
@@ -182,7 +203,7 @@ module _ (r : Run) (e : Event) (size : Sized r) (next : Run) (t : Taken r e next
               stands ∙ ap accepted (carried-decided (standingAt r k i) _ (ap isDecided q ∙ d) ∙ q);
           judged = λ h.
               let c : Cycle (eventsOf now) = valid-cycle now valid-next in
-              early-at (ruleAt (now .table) k) (eventsOf now) now k i (rule-valid (now .table) rules-sized (valid-parts now valid-next .table) k (w .rule-low) (w .rule-high)) (c .formed) (c .order) (w .position-low) (w .position-high)
+              early-at (ruleAt (now .table) k) (eventsOf now) now k i (rule-valid (now .table) rules-sized (valid-parts now valid-next .table) k (w .rule-low) (w .rule-high)) (c .formed) (c .order) (position-within (now .table) _ k i (w .position))
               (stands ∙ ap accepted (carried-other was _ (was-undecided h)));
         }
       where

@@ -25,7 +25,7 @@ use Rattle.run.specs.Records.{eventsOf, horizonOf, totalsIn, validRun}
 use Rattle.run.specs.Start.{startOf}
 use Rattle.run.specs.Take.{takeOf}
 use Rattle.run.specs.Close.{closeOf}
-use Rattle.run.specs.Queries.{oneOf, standingOf, totalsOf}
+use Rattle.run.specs.Queries.{oneOf, isPosition, standingOf, totalsOf}
 use Rattle.tally.specs.declared.Tally.{Tally}
 use Rattle.tally.specs.declared.Counted.{Counted}
 use Rattle.tally.specs.declared.Outcome.{Outcome}
@@ -71,11 +71,12 @@ takeCauses r e =
 unfoldable pub closeCauses : Run → List Cause
 closeCauses r = cause InvalidRecord (not (validRun r)) ∷ cause WrongPhase (r .closed) ∷ []
 
--- "standing and totals: 11, 10"
+-- "standing and totals: 11, 10"; position 0 "counts as taken" under 13 to 16 and "of other rules is
+-- 10"
 unfoldable pub standingCauses : Run → ℕ → ℕ → List Cause
 standingCauses r rule position =
     cause InvalidRecord (not (validRun r))
-    ∷ cause NotFound (not (oneOf (r .table .count) rule && oneOf (r .count) position))
+    ∷ cause NotFound (not (oneOf (r .table .count) rule && isPosition (r .table) (r .count) rule position))
     ∷ []
 
 unfoldable pub totalsCauses : Run → ℕ → List Cause

@@ -63,7 +63,7 @@ pub record TakenFrom (r next : Run) (k i : ℕ) : Type 0 where
   pub carried : (s : Standing) → standingOf r k i ≡ accepted s → isDecided s ≡ true → standingOf next k i ≡ accepted s
   pub judged : ((s : Standing) → standingOf r k i ≡ accepted s → isDecided s ≡ false) → Early (ruleAt (next .table) k) (eventsOf next) next k i
 
--- proved as `every-record`
+-- position 0 too; proved as `every-record`
 abbrev pub EveryRecord : Type 0
 EveryRecord =
     (r next : Run) (e : Event) → Sized r → takeOf r e ≡ accepted next
@@ -83,8 +83,9 @@ pub record ReadBack (t : Table) (offered : List Event) (r : Run) : Type 0 where
   pub rules-text : Bytes rulesBytes (rulesText (rulesOf t))
   pub cycle-text : Bytes cycleBytes (eventsText (taken offered))
   pub reply : notebookOf (rulesText (rulesOf t)) (eventsText (taken offered)) ≡ readAs r
-  pub run : RunOf (rewritten t) (taken offered) true (finished (taken offered)) r
+  pub run : RunOf (rewritten t) (taken offered) true (finished (rewritten t) (taken offered)) r
   pub cells : r .cells ≡ closedRun (grown t offered) .cells
+  pub overall : r .overall ≡ closedRun (grown t offered) .overall
   pub standing : (k i : ℕ) → standingOf r k i ≡ standingOf (closedRun (grown t offered)) k i
   pub totals : (k : ℕ) → totalsOf r k ≡ totalsOf (closedRun (grown t offered)) k
 
@@ -94,6 +95,7 @@ pub record ReadBack (t : Table) (offered : List Event) (r : Run) : Type 0 where
 pub record Demand3 (t : Table) (offered : List Event) : Type 0 where
   -- the run has the table and exactly the taken events; each call, and after close, answers so
   pub takes : Takes t offered
+  -- after every list of takes, the empty one included, position 0 too
   pub early : EarlyVerdicts t (taken offered) (grown t offered)
   pub notebook : (r : Run) × ReadBack t offered r
 
