@@ -66,6 +66,18 @@ fn rules(x: &mut Numbers, count: u64) -> String {
     (0..count).map(rule).collect()
 }
 
+/// Rules about the cycle that stay open: three for want of such a reading, the last for want of
+/// such an activity.
+fn overall_rules() -> String {
+    [
+        "13\t1\t2\t0\t-\t1=1000\t-\n",
+        "14\t3\t3\t0\t-\t2>200\t-\n",
+        "15\t5\t6\t0\t-\t3<-50\t-\n",
+        "16\t7\t9\t0\t-\t-\t-\n",
+    ]
+    .concat()
+}
+
 fn reading(x: &mut Numbers) -> String {
     match x.below(3) {
         0 => "-".to_string(),
@@ -124,11 +136,15 @@ fn texts(name: &str) -> (String, Vec<String>) {
         "worst" => (worst_rules(1), vec![worst_cycle()]),
         "worst4" => (worst_rules(4), vec![worst_cycle()]),
         "typical" => (rules(x, 16), vec![cycle(x, 256)]),
+        "overall" => (overall_rules() + &rules(x, 12), vec![cycle(x, 256)]),
         "blank" => (String::new(), vec![blank_cycle(x)]),
         "long" => (String::new(), vec![long_cycle(x)]),
         "many10" => (rules(x, 10), many_cycles(x)),
         "many16" => (rules(x, 16), many_cycles(x)),
-        _ => (rules(x, 8), vec![cycle(x, 20), cycle(x, 12)]),
+        _ => (
+            overall_rules() + &rules(x, 8),
+            vec![cycle(x, 20), cycle(x, 12)],
+        ),
     }
 }
 

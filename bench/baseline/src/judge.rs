@@ -133,13 +133,13 @@ fn answers(c: &Check, e: &Event) -> bool {
     }
 }
 
+fn meets_condition(rule: &Rule, e: &Event) -> bool {
+    let used = rule.condition.used();
+    used.iter().all(|c| passes(e, &test_of(e, c)))
+}
+
 fn is_activation(rule: &Rule, e: &Event) -> bool {
-    e.activity == rule.activation
-        && rule
-            .condition
-            .used()
-            .iter()
-            .all(|c| passes(e, &test_of(e, c)))
+    e.activity == rule.activation && meets_condition(rule, e)
 }
 
 fn within(window: &Window, d: u32) -> bool {
@@ -278,6 +278,7 @@ fn judge_activation(
 }
 
 /// The rows of the rules: a decided standing is carried over, any other follows from the events.
+/// Rules about the cycle stand idle there.
 pub fn judge_cells(
     running: bool,
     rules: &[Rule],
@@ -288,6 +289,9 @@ pub fn judge_cells(
     let mut flags = [false; 256];
     let flags = &mut flags[..events.len()];
     for (rule, row) in rules.iter().zip(cells.chunks_exact_mut(256)) {
+        if rule.is_overall() {
+            continue;
+        }
         for (f, e) in flags.iter_mut().zip(events) {
             *f = is_activation(rule, e);
         }
@@ -299,6 +303,67 @@ pub fn judge_cells(
                     Standing::Idle
                 };
             }
+        }
+    }
+}
+
+/// The first position at which the activity occurs: with the condition met, inside the window from
+/// the first event on.
+fn first_occurrence(rule: &Rule, activity: u8, events: &[Event]) -> Option<u16> {
+    let first = events.first()?.time;
+    let occurs = |e: &Event| {
+        e.activity == activity
+            && within(&rule.window, first.abs_diff(e.time))
+            && meets_condition(rule, e)
+    };
+    events.iter().position(occurs).map(|p| (p + 1) as u16)
+}
+
+/// Whether an event that comes may occur. The activation condition names constants only.
+fn can_occur(rule: &Rule, events: &[Event], horizon: u32) -> bool {
+    let first = events.first().map_or(horizon, |e| e.time);
+    let c = &rule.condition;
+    let tests = c.comparisons.map(|x| test_of(&SLOT, &x));
+    has_room(&rule.window, first, horizon) && satisfiable(&tests[..c.count as usize])
+}
+
+/// The standing at position 0.
+fn judge_cycle(running: bool, rule: &Rule, events: &[Event], horizon: u32) -> Standing {
+    let activation = first_occurrence(rule, rule.activation, events);
+    let target = match rule.counts_target() {
+        true => first_occurrence(rule, rule.target, events),
+        false => None,
+    };
+    let (a, b) = (activation.is_some(), target.is_some());
+    let (fulfilled, settled) = match rule.code {
+        13 => (a, a),
+        14 => (!a, a),
+        15 => (a || b, a || b),
+        _ => (a != b, a && b),
+    };
+    if running && !settled && can_occur(rule, events, horizon) {
+        return Standing::Open;
+    }
+    let earliest = activation.into_iter().chain(target).min().unwrap_or(0);
+    if fulfilled {
+        Standing::Fulfilled(earliest)
+    } else {
+        Standing::Violated(earliest)
+    }
+}
+
+/// Position 0 of the rules about the cycle: a decided standing is carried over, any other follows
+/// from the events.
+pub fn judge_overall(
+    running: bool,
+    rules: &[Rule],
+    events: &[Event],
+    horizon: u32,
+    overall: &mut [Standing; 16],
+) {
+    for (rule, s) in rules.iter().zip(overall) {
+        if rule.is_overall() && matches!(s, Standing::Idle | Standing::Open) {
+            *s = judge_cycle(running, rule, events, horizon);
         }
     }
 }

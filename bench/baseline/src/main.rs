@@ -37,10 +37,11 @@ fn of_run(run: &Run) -> u64 {
     joined(of_standing(run.cells[0]), run.count as u64)
 }
 
-fn of_cells(run: &Run) -> u64 {
-    run.cells
-        .iter()
-        .fold(0, |sum, &s| joined(sum, of_standing(s)))
+/// Every cell, and position 0 of every rule.
+fn of_standings(run: &Run) -> u64 {
+    let with = |sum, &s: &Standing| joined(sum, of_standing(s));
+    let cells = run.cells.iter().fold(0, with);
+    joined(cells, run.overall.iter().fold(0, with))
 }
 
 fn of_totals(t: Totals) -> u64 {
@@ -82,14 +83,7 @@ fn judged(table: &Table, events: &[Event]) -> Run {
     let mut run = Run::start(*table).unwrap();
     run.count = events.len();
     run.events[..events.len()].copy_from_slice(events);
-    let horizon = events.last().map_or(0, |e| e.time);
-    judge::judge_cells(
-        true,
-        &table.rules[..table.count],
-        events,
-        horizon,
-        &mut run.cells,
-    );
+    run.judge(events.last().map_or(0, |e| e.time));
     run
 }
 
@@ -119,7 +113,7 @@ fn cycles(table: &Table, events: &[Event], turns: usize, copies: &mut Copies) ->
         let mut run = taken(black_box(table), events, copies);
         copies.make();
         run.close().unwrap();
-        sum = joined(sum, of_cells(&run));
+        sum = joined(sum, of_standings(&run));
     }
     sum
 }
@@ -160,7 +154,7 @@ fn notebooks(letter: u8, rules: &[u8], cycles: &[&[u8]], turns: usize) -> u64 {
                 if letter == b'n' {
                     of_run(&run)
                 } else {
-                    of_cells(&run)
+                    of_standings(&run)
                 },
             );
         }

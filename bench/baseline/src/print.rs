@@ -4,8 +4,8 @@ use crate::text::read_notebook;
 use crate::types::*;
 use crate::write::Text;
 
-/// The bytes of the longest text: of each of 16 rules 256 lines of 13 bytes and one of 21.
-pub const PRINTED_BYTES: usize = 53584;
+/// The bytes of the longest text: of each of 16 rules 257 lines of 13 bytes and one of 21.
+pub const PRINTED_BYTES: usize = 53792;
 
 /// The bytes of the longest refusal: a cause of 3 digits and a line of 10.
 const REFUSED_BYTES: usize = 29;
@@ -27,17 +27,23 @@ impl<const ROOM: usize> Text<ROOM> {
         self.field(totals.violated as u32, b'\n');
     }
 
-    /// The lines of a rule, in one pass, which also counts the totals.
-    fn rule_lines(&mut self, rule: u32, row: &[Standing]) {
+    fn position(&mut self, rule: u32, position: u32, s: Standing) {
+        match s {
+            Standing::Idle => {}
+            Standing::Open => self.activation(rule, position, b'O', 0),
+            Standing::Fulfilled(target) => self.activation(rule, position, b'F', target),
+            Standing::Violated(target) => self.activation(rule, position, b'V', target),
+        }
+    }
+
+    /// The lines of a rule, position 0 first, in one pass, which also counts the totals.
+    fn rule_lines(&mut self, rule: u32, zero: Standing, row: &[Standing]) {
         let mut totals = NO_TOTALS;
+        totals.count(zero);
+        self.position(rule, 0, zero);
         for (position, &s) in (1..).zip(row) {
             totals.count(s);
-            match s {
-                Standing::Idle => {}
-                Standing::Open => self.activation(rule, position, b'O', 0),
-                Standing::Fulfilled(target) => self.activation(rule, position, b'F', target),
-                Standing::Violated(target) => self.activation(rule, position, b'V', target),
-            }
+            self.position(rule, position, s);
         }
         self.total(rule, &totals);
     }
@@ -48,8 +54,9 @@ fn write_report(run: &Run, out: &mut [u8]) -> Result<usize, Cause> {
         return Err(11);
     }
     let mut text = Text::<PRINTED_BYTES>::new();
-    for (rule, row) in (1..).zip(run.cells.chunks_exact(256).take(run.table.count)) {
-        text.rule_lines(rule, &row[..run.count]);
+    for k in 0..run.table.count {
+        let row = &run.cells[k * 256..][..run.count];
+        text.rule_lines(k as u32 + 1, run.zero(k), row);
     }
     text.write(out)
 }

@@ -1,5 +1,5 @@
 //! The running cycle: the record check, and the calls start, take, close, standing and totals.
-use crate::judge::judge_cells;
+use crate::judge::{judge_cells, judge_overall};
 use crate::types::*;
 
 fn is_activity(a: u8) -> bool {
@@ -28,12 +28,13 @@ fn valid_condition(correlation: bool, c: &Condition) -> bool {
 }
 
 fn valid_rule(r: &Rule) -> bool {
-    (1..=12).contains(&r.code)
+    (1..=16).contains(&r.code)
         && is_activity(r.activation)
         && is_activity(r.target)
         && r.window.until.map_or(true, |b| r.window.from < b)
         && valid_condition(false, &r.condition)
         && valid_condition(true, &r.correlation)
+        && r.fits_template()
 }
 
 pub fn valid_table(t: &Table) -> bool {
@@ -57,22 +58,34 @@ fn valid_standing(closed: bool, count: usize, s: Standing) -> bool {
     }
 }
 
-fn valid_row(closed: bool, count: usize, row: &[Standing]) -> bool {
+/// A rule about the cycle stands idle at every event.
+fn valid_row(closed: bool, count: usize, rule: &Rule, row: &[Standing]) -> bool {
+    let count = if rule.is_overall() { 0 } else { count };
     row[..count]
         .iter()
         .all(|&s| valid_standing(closed, count, s))
         && row[count..].iter().all(|&s| s == Standing::Idle)
 }
 
+/// Position 0 of other rules is not looked at.
+fn valid_zero(closed: bool, count: usize, rule: &Rule, s: Standing) -> bool {
+    !rule.is_overall() || s != Standing::Idle && valid_standing(closed, count, s)
+}
+
+fn valid_standings(run: &Run) -> bool {
+    let (closed, count) = (run.closed, run.count);
+    let rules = run.table.used();
+    let mut rows = rules.iter().zip(run.cells.chunks_exact(256));
+    let mut zeros = rules.iter().zip(run.overall);
+    rows.all(|(rule, row)| valid_row(closed, count, rule, row))
+        && zeros.all(|(rule, s)| valid_zero(closed, count, rule, s))
+}
+
 pub fn valid_run(run: &Run) -> bool {
     valid_table(&run.table)
         && run.count <= 256
         && valid_events(&run.events[..run.count])
-        && run
-            .cells
-            .chunks_exact(256)
-            .take(run.table.count)
-            .all(|row| valid_row(run.closed, run.count, row))
+        && valid_standings(run)
 }
 
 impl Run {
@@ -80,13 +93,24 @@ impl Run {
         if !valid_table(&table) {
             return Err(11);
         }
+        let mut overall = [Standing::Idle; 16];
+        judge_overall(true, table.used(), &[], 0, &mut overall);
         Ok(Run {
             closed: false,
             table,
             count: 0,
             events: [SLOT; 256],
             cells: [Standing::Idle; 4096],
+            overall,
         })
+    }
+
+    /// Judges all standings of the running cycle.
+    pub fn judge(&mut self, horizon: u32) {
+        let rules = self.table.used();
+        let events = &self.events[..self.count];
+        judge_cells(true, rules, events, horizon, &mut self.cells);
+        judge_overall(true, rules, events, horizon, &mut self.overall);
     }
 
     #[inline(never)]
@@ -109,14 +133,7 @@ impl Run {
         }
         self.events[n] = event;
         self.count = n + 1;
-        let rules = &self.table.rules[..self.table.count];
-        judge_cells(
-            true,
-            rules,
-            &self.events[..n + 1],
-            event.time,
-            &mut self.cells,
-        );
+        self.judge(event.time);
         Ok(())
     }
 
@@ -128,7 +145,7 @@ impl Run {
         if self.closed {
             return Err(9);
         }
-        let rules = &self.table.rules[..self.table.count];
+        let rules = self.table.used();
         for (rule, row) in rules.iter().zip(self.cells.chunks_exact_mut(256)) {
             let closing = if rule.code >= 8 {
                 Standing::Fulfilled(0)
@@ -142,8 +159,24 @@ impl Run {
                 *c = closing;
             }
         }
+        let events = &self.events[..self.count];
+        judge_overall(false, rules, events, 0, &mut self.overall);
         self.closed = true;
         Ok(())
+    }
+
+    /// Position 0 of the rule at place k: idle, unless the rule is about the cycle.
+    pub fn zero(&self, k: usize) -> Standing {
+        match self.table.rules[k].is_overall() {
+            true => self.overall[k],
+            false => Standing::Idle,
+        }
+    }
+
+    fn has_position(&self, rule: usize, position: usize) -> bool {
+        (1..=self.table.count).contains(&rule)
+            && position <= self.count
+            && (position > 0 || self.table.rules[rule - 1].is_overall())
     }
 
     #[inline(never)]
@@ -151,8 +184,11 @@ impl Run {
         if !valid_run(self) {
             return Err(11);
         }
-        if !(1..=self.table.count).contains(&rule) || !(1..=self.count).contains(&position) {
+        if !self.has_position(rule, position) {
             return Err(10);
+        }
+        if position == 0 {
+            return Ok(self.overall[rule - 1]);
         }
         Ok(self.cells[(rule - 1) * 256 + position - 1])
     }
@@ -166,6 +202,7 @@ impl Run {
             return Err(10);
         }
         let mut t = NO_TOTALS;
+        t.count(self.zero(rule - 1));
         for &s in &self.cells[(rule - 1) * 256..][..self.count] {
             t.count(s);
         }

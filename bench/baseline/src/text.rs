@@ -1,5 +1,5 @@
 //! Cycle texts, rules texts, and the notebook that reads both.
-use crate::judge::judge_cells;
+use crate::judge::{judge_cells, judge_overall};
 use crate::types::*;
 
 /// The number up to `end`, and past it; each byte once.
@@ -224,7 +224,7 @@ fn window(line: &[u8], i: &mut usize) -> Result<Window, Cause> {
 
 fn rule(line: &[u8]) -> Result<Rule, Cause> {
     let mut i = 0;
-    let code = natural(line, &mut i, 1, 12)? as u8;
+    let code = natural(line, &mut i, 1, 16)? as u8;
     let activation = natural(line, &mut i, 1, 64)? as u8;
     let target = natural(line, &mut i, 1, 64)? as u8;
     let window = window(line, &mut i)?;
@@ -235,14 +235,18 @@ fn rule(line: &[u8]) -> Result<Rule, Cause> {
     if window.until.is_some_and(|b| window.from >= b) {
         return Err(6);
     }
-    Ok(Rule {
+    let rule = Rule {
         code,
         activation,
         target,
         window,
         condition: condition_field,
         correlation,
-    })
+    };
+    if !rule.fits_template() {
+        return Err(16);
+    }
+    Ok(rule)
 }
 
 /// The table, or the cause and the line.
@@ -272,19 +276,17 @@ pub fn read_rules(text: &[u8]) -> Result<Table, (Cause, usize)> {
 pub fn read_notebook(rules: &[u8], cycle: &[u8]) -> Result<Run, (Which, Cause, usize)> {
     let table = read_rules(rules).map_err(|(cause, line)| (Which::Rules, cause, line))?;
     let read = read_cycle(cycle).map_err(|(cause, line)| (Which::Cycle, cause, line))?;
+    let events = &read.events[..read.count];
     let mut cells = [Standing::Idle; 4096];
-    judge_cells(
-        false,
-        &table.rules[..table.count],
-        &read.events[..read.count],
-        0,
-        &mut cells,
-    );
+    judge_cells(false, table.used(), events, 0, &mut cells);
+    let mut overall = [Standing::Idle; 16];
+    judge_overall(false, table.used(), events, 0, &mut overall);
     Ok(Run {
         closed: true,
         table,
         count: read.count,
         events: read.events,
         cells,
+        overall,
     })
 }

@@ -97,6 +97,8 @@ pub struct Run {
     pub count: usize,
     pub events: [Event; 256],
     pub cells: [Standing; 4096],
+    /// Position 0 of each rule.
+    pub overall: [Standing; 16],
 }
 
 pub const SLOT: Event = Event {
@@ -141,6 +143,31 @@ impl Totals {
         self.fulfilled += matches!(s, Standing::Fulfilled(_)) as u16;
         self.violated += matches!(s, Standing::Violated(_)) as u16;
         self.open += matches!(s, Standing::Open) as u16;
+    }
+}
+
+impl Rule {
+    /// Whether it is about the cycle as such: it stands at position 0, and idle at events.
+    pub fn is_overall(&self) -> bool {
+        (13..=16).contains(&self.code)
+    }
+
+    /// Whether such a rule judges its target activity too.
+    pub fn counts_target(&self) -> bool {
+        self.code >= 15
+    }
+
+    /// Such a rule has no correlation, and activities that differ where both count.
+    pub fn fits_template(&self) -> bool {
+        !self.is_overall()
+            || self.correlation.count == 0
+                && !(self.counts_target() && self.activation == self.target)
+    }
+}
+
+impl Table {
+    pub fn used(&self) -> &[Rule] {
+        &self.rules[..self.count]
     }
 }
 

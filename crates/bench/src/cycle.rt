@@ -7,6 +7,7 @@ use declare::RULES;
 use declare::Table;
 use declare::numbers::less_one;
 use judge::cells::judge_cells;
+use judge::overall::judge_overall;
 use run::Run;
 
 // The run of a table that has taken the first n events.
@@ -30,10 +31,13 @@ fn judged(table: Table, events: [Event; EVENTS], n: usize) -> Run {
     let mut run = step.run;
     let last = event_at(events, less_one(n));
     let cells = run.cells;
+    let overall = run.overall;
     let standings = judge_cells(true, table, events, n, last.time, cells);
+    let zero = judge_overall(true, table, events, n, last.time, overall);
     run.count = n;
     run.events = events;
     run.cells = standings;
+    run.overall = zero;
     run
 }
 
@@ -64,9 +68,7 @@ fn cycles(table: Table, events: [Event; EVENTS], n: usize, turns: usize) -> u64 
     for i in 0..turns {
         let run = taken(table, events, n);
         let step = run.close();
-        let end = step.run;
-        let cells = end.cells;
-        sum = weight::joined(sum, weight::of_cells(cells));
+        sum = weight::joined(sum, weight::of_standings(step.run));
     }
     sum
 }

@@ -6,7 +6,7 @@
 // 65,536 bytes. Standard output: one number, made of the answers. Letters: t the last event of the
 // first cycle is taken `turns` times, each time by the run of the events before it; c the first
 // cycle is run from start to close; x closed; s its standings are asked; o its totals; r its text
-// is read; n the notebook of each cycle is read; v the same, and every cell is looked at; w the
+// is read; n the notebook of each cycle is read; v the same, and every standing is looked at; w the
 // first cycle's events are written as a text; p the rules are.
 mod input; // input.rt: the parts of the input
 mod weight; // weight.rt: answers made numbers

@@ -2,7 +2,6 @@
 use crate::input;
 use crate::weight;
 use cycle_text::CycleRead;
-use notebook::Notebook;
 
 fn wide(x: u32) -> u64 {
     x as u64
@@ -44,20 +43,14 @@ pub fn notebooks(rules: &[u8], rest: &[u8], cycles: usize, turns: usize) -> u64 
     sum
 }
 
-fn of_book(book: Notebook) -> u64 {
-    let run = book.run;
-    let cells = run.cells;
-    weight::of_cells(cells)
-}
-
-// The notebooks of all cycles, every cell looked at.
+// The notebooks of all cycles, every standing looked at.
 fn all_checks(rules: &[u8], rest: &[u8], cycles: usize) -> u64 {
     let mut sum: u64 = 0;
     let mut at = 0;
     for k in 0..cycles {
         let cycle = input::cycle_of(line::part_from(rest, at));
         let book = notebook::read_notebook(rules, cycle);
-        sum = weight::joined(sum, of_book(book));
+        sum = weight::joined(sum, weight::of_standings(book.run));
         at = input::next_at(rest, at);
     }
     sum

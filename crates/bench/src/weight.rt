@@ -1,5 +1,6 @@
 // Answers made numbers, so that none of them is left out by the compiler.
 use buffer::WriteAnswer;
+use declare::RULES;
 use declare::Standing;
 use run::Outcome;
 use run::Run;
@@ -81,8 +82,24 @@ pub fn of_run(run: Run) -> u64 {
     joined(of_standing(s), of_position(run.count))
 }
 
-// Every cell.
-pub fn of_cells(cells: [Cell; PLACES]) -> u64 {
+// Every cell, and position 0 of every rule.
+pub fn of_standings(run: Run) -> u64 {
+    let cells = run.cells;
+    let overall = run.overall;
+    joined(of_cells(cells), of_overall(overall))
+}
+
+fn of_overall(overall: [Cell; RULES]) -> u64 {
+    let mut sum: u64 = 0;
+    for k in 0..RULES {
+        let c = overall[k];
+        let s = c.standing;
+        sum = joined(sum, of_standing(s));
+    }
+    sum
+}
+
+fn of_cells(cells: [Cell; PLACES]) -> u64 {
     let mut sum: u64 = 0;
     for j in 0..PLACES {
         let c = cells[j];

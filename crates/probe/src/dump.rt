@@ -69,6 +69,30 @@ pub fn standings(run: Run) -> Run {
     run
 }
 
+fn write_cell(cell: Cell) {
+    let s = cell.standing;
+    let target = target_of(s);
+    let mut out = [0u8; 4];
+    out[0] = kind_of(s);
+    out[2] = low(target);
+    out[3] = high(target);
+    io::write_all(1, &out);
+}
+
+fn write_overall(cells: [Cell; RULES]) {
+    for k in 0..RULES {
+        let cell = cells[k];
+        write_cell(cell);
+    }
+}
+
+// Position 0 of each rule slot.
+pub fn overall(run: Run) -> Run {
+    let cells = run.overall;
+    write_overall(cells);
+    run
+}
+
 fn operator_byte(operator: Operator) -> u8 {
     match operator {
         Operator::Equal => 0,
@@ -262,5 +286,7 @@ pub fn whole(run: Run) -> Run {
     write_events(events);
     let cells = run.cells;
     write_rows(cells, RULES, EVENTS);
+    let zero = run.overall;
+    write_overall(zero);
     run
 }

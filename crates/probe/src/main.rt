@@ -78,6 +78,8 @@ fn change_run(table: Table, run: Run, command: [u8; 32]) -> Run {
         },
         // d
         100 => dump::standings(run),
+        // z
+        122 => dump::overall(run),
         // D
         68 => dump::whole(run),
         _ => run,

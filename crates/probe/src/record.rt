@@ -1,6 +1,7 @@
 // Single fields of the run.
 use crate::command;
 use declare::EVENTS;
+use declare::RULES;
 use declare::Standing;
 use declare::Table;
 use declare::slots::empty_table;
@@ -32,14 +33,25 @@ fn standing(kind: u8, target: u16) -> Standing {
     }
 }
 
-fn with_cell(run: Run, command: [u8; 32]) -> Run {
-    let at = command::index(command::low_half(command));
-    if PLACES <= at {
+// Position 0 of the rule slot k.
+fn with_zero(run: Run, k: usize, cell: Cell) -> Run {
+    if RULES <= k {
         return run;
     }
+    let mut next = run;
+    next.overall[k] = cell;
+    next
+}
+
+// The cells of events, and after them those of position 0.
+fn with_cell(run: Run, command: [u8; 32]) -> Run {
+    let at = command::index(command::low_half(command));
     let cell = Cell {
         standing: standing(command[1], target(command::high_half(command))),
     };
+    if PLACES <= at {
+        return with_zero(run, at - PLACES, cell);
+    }
     let mut next = run;
     next.cells[at] = cell;
     next

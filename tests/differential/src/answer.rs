@@ -15,8 +15,12 @@ const RULE_BYTES: usize = 12 + 2 * (4 + 4 * 8);
 const EVENT_BYTES: usize = 24;
 const EVENTS_AT: usize = 24 + RULE_SLOTS * RULE_BYTES;
 const STANDINGS_AT: usize = EVENTS_AT + EVENT_SLOTS * EVENT_BYTES;
-/// The dump `D`: a head of 24 bytes, rule slots, event slots, standings.
-pub const RUN_BYTES: usize = STANDINGS_AT + RULE_SLOTS * EVENT_SLOTS * STANDING_BYTES;
+const OVERALL_AT: usize = STANDINGS_AT + RULE_SLOTS * EVENT_SLOTS * STANDING_BYTES;
+/// The dump `z`: position 0 of each rule slot.
+pub const OVERALL_BYTES: usize = RULE_SLOTS * STANDING_BYTES;
+/// The dump `D`: a head of 24 bytes, rule slots, event slots, standings, those at
+/// position 0.
+pub const RUN_BYTES: usize = OVERALL_AT + OVERALL_BYTES;
 
 /// The answer of a call, all of its fields. What a call does not name is 0.
 #[derive(Debug, Clone, Copy, PartialEq, Eq, Default)]
@@ -154,6 +158,14 @@ pub fn decode_standings(
     rows
 }
 
+/// The dump `z`.
+pub fn decode_overall(bytes: &[u8]) -> Result<[Standing; RULE_SLOTS], Wrong> {
+    let mut read = Bytes::new(bytes);
+    let overall = overall_of(&mut read)?;
+    read.end()?;
+    Ok(overall)
+}
+
 /// The dump `B`.
 pub fn decode_tally(bytes: &[u8]) -> Result<Tally, Wrong> {
     let mut read = Bytes::new(bytes);
@@ -185,14 +197,25 @@ pub fn decode_run(bytes: &[u8]) -> Result<Record, Wrong> {
     let cells = RULE_SLOTS * EVENT_SLOTS;
     let standings: Result<Vec<Standing>, Wrong> =
         (0..cells).map(|_| standing_of(&mut read)).collect();
+    let standings = standings?;
+    let overall = overall_of(&mut read)?;
     read.end()?;
     Ok(Record {
         closed,
         table,
         count,
         events,
-        standings: standings?,
+        standings,
+        overall,
     })
+}
+
+fn overall_of(read: &mut Bytes) -> Result<[Standing; RULE_SLOTS], Wrong> {
+    let mut overall = [Standing::Idle; RULE_SLOTS];
+    for standing in &mut overall {
+        *standing = standing_of(read)?;
+    }
+    Ok(overall)
 }
 
 /// "kind, 0, target": idle and open have no target.
@@ -352,6 +375,21 @@ mod tests {
     }
 
     #[test]
+    fn position_0_has_a_cell_of_each_rule_slot() {
+        let mut bytes = [0; 64];
+        bytes[..8].copy_from_slice(&[1, 0, 0, 0, 2, 0, 1, 1]);
+        bytes[60..].copy_from_slice(&[3, 0, 255, 255]);
+        let found = decode_overall(&bytes).expect("16 cells");
+        assert_eq!(found[..2], [Standing::Open, Standing::Fulfilled(257)]);
+        assert_eq!(found[2..15], [Standing::Idle; 13]);
+        assert_eq!(found[15], Standing::Violated(65_535));
+        assert!(decode_overall(&bytes[4..]).is_err());
+        assert!(decode_overall(&[0; 65]).is_err());
+        bytes[60] = 4;
+        assert!(decode_overall(&bytes).is_err());
+    }
+
+    #[test]
     fn the_tally_has_four_numbers() {
         let bytes = [1, 0, 0, 0, 255, 255, 255, 255, 0, 1, 0, 0, 0, 0, 0, 128];
         let tally = Tally {
@@ -383,7 +421,8 @@ mod tests {
     #[test]
     fn the_parts_of_a_run_have_their_places() {
         assert_eq!((RULE_BYTES, EVENTS_AT), (84, 1368));
-        assert_eq!((STANDINGS_AT, RUN_BYTES), (7512, 23_896));
+        assert_eq!((STANDINGS_AT, OVERALL_AT), (7512, 23_896));
+        assert_eq!((OVERALL_BYTES, RUN_BYTES), (64, 23_960));
     }
 
     #[test]
@@ -418,6 +457,8 @@ mod tests {
         put(&mut bytes, last + 8, &[255; 4]);
         put(&mut bytes, last + 16, &[7]);
         put(&mut bytes, 7512 + 4 * 257, &[2, 0, 4, 1]);
+        put(&mut bytes, 23_892, &[1]);
+        put(&mut bytes, 23_896, &[3, 0, 2, 1]);
         put(&mut bytes, RUN_BYTES - 4, &[1]);
         let record = decode_run(&bytes).expect("a run");
         let expected = Event::new(0x0403_0201, 64)
@@ -430,6 +471,9 @@ mod tests {
         assert_eq!(record.standings[4095], Standing::Open);
         let others = record.standings.iter().filter(|s| **s == Standing::Idle);
         assert_eq!(others.count(), 4094);
+        assert_eq!(record.overall[0], Standing::Violated(258));
+        assert_eq!(record.overall[15], Standing::Open);
+        assert_eq!(record.overall[1..15], [Standing::Idle; 14]);
     }
 
     #[test]
@@ -450,6 +494,9 @@ mod tests {
             (7512, 4),
             (7513, 1),
             (7514, 1),
+            (23_896, 4),
+            (23_957, 1),
+            (23_958, 1),
         ];
         for (at, byte) in wrong {
             let mut bytes = run_bytes();

@@ -3,6 +3,7 @@
 pub mod causes;
 pub mod crowded;
 pub mod notebook;
+pub mod overall;
 pub mod printed;
 pub mod records;
 pub mod reported;

@@ -18,8 +18,14 @@ pub fn buffer_of(n: u64) -> Vec<u8> {
     vec![165; n.min(LARGEST_BUFFER as u64) as usize]
 }
 
-/// One command. Slots, places and cells count from 0, rules and positions
-/// from 1.
+/// The cell that `S` sets for position 0 of a rule, 1 to 16: "p from 4096 to 4111:
+/// position 0 of rule p − 4095".
+pub fn cell_at_0(rule: u32) -> u32 {
+    4095 + rule
+}
+
+/// One command. Slots, places and cells count from 0, rules and the positions of
+/// events from 1.
 #[derive(Debug, Clone, PartialEq, Eq)]
 pub enum Command {
     NewTable {
@@ -95,6 +101,7 @@ pub enum Command {
         room: u32,
     },
     DumpStandings,
+    DumpOverall,
     DumpRun,
     DumpTally,
 }
@@ -126,6 +133,7 @@ impl Command {
             Command::WriteReport { .. } => 'v',
             Command::PrintTexts { .. } => 'p',
             Command::DumpStandings => 'd',
+            Command::DumpOverall => 'z',
             Command::DumpRun => 'D',
             Command::DumpTally => 'B',
         }
@@ -371,6 +379,7 @@ mod tests {
             (Command::Start, b's'),
             (Command::Close, b'x'),
             (Command::DumpStandings, b'd'),
+            (Command::DumpOverall, b'z'),
             (Command::DumpRun, b'D'),
             (Command::DumpTally, b'B'),
         ] {
@@ -470,6 +479,18 @@ mod tests {
         let flag = |closed| encoded(Command::SetClosed { closed });
         assert_eq!(flag(true), bytes(b'F', &[(1, &[1])]));
         assert_eq!(flag(false), bytes(b'F', &[]));
+    }
+
+    #[test]
+    fn standings_at_position_0() {
+        for (rule, low) in [(1, 0), (2, 1), (16, 15)] {
+            let set = encoded(Command::SetStanding {
+                cell: cell_at_0(rule),
+                standing: Standing::Violated(5),
+            });
+            let placed: [(usize, &[u8]); 3] = [(1, &[3]), (8, &[low, 16]), (12, &[5])];
+            assert_eq!(set, bytes(b'S', &placed));
+        }
     }
 
     #[test]

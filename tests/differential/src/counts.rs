@@ -33,8 +33,9 @@ pub struct Counts {
     answers: BTreeMap<(char, u8), usize>,
     /// Dumps by their letter.
     dumps: BTreeMap<char, usize>,
-    /// By template code and [`SHOWN`].
-    standings: [[usize; 6]; 13],
+    /// By template code and [`SHOWN`]. The rules 13 to 16 are idle at events, and
+    /// their other standings are those at position 0.
+    standings: [[usize; 6]; 17],
 }
 
 impl Counts {
@@ -54,13 +55,24 @@ impl Counts {
             return;
         }
         *self.dumps.entry(letter).or_default() += 1;
-        if let Expected::Standings { codes, rows } = expected {
-            for (code, row) in codes.iter().zip(rows) {
-                for standing in row {
-                    self.standings[usize::from(*code)][shown(*standing)] += 1;
+        match expected {
+            Expected::Standings { codes, rows } => {
+                for (code, row) in codes.iter().zip(rows) {
+                    row.iter().for_each(|s| self.add_standing(*code, *s));
                 }
             }
+            Expected::Overall { codes, cells } => {
+                let overall = codes.iter().zip(cells).filter(|(code, _)| **code >= 13);
+                for (code, cell) in overall {
+                    cell.iter().for_each(|s| self.add_standing(*code, *s));
+                }
+            }
+            _ => {}
         }
+    }
+
+    fn add_standing(&mut self, code: u8, standing: Standing) {
+        self.standings[usize::from(code)][shown(standing)] += 1;
     }
 
     pub fn merge(&mut self, other: &Counts) {
@@ -136,7 +148,11 @@ impl fmt::Display for Counts {
                 write!(f, ", {calls} {name} ({accepted} accepted)")?;
             }
         }
-        let dumps = [('d', "lists of standings"), ('D', "whole records")];
+        let dumps = [
+            ('d', "lists of standings"),
+            ('z', "lists of standings at position 0"),
+            ('D', "whole records"),
+        ];
         for (letter, name) in dumps {
             if self.dumps(letter) > 0 {
                 write!(f, ", {} {name}", self.dumps(letter))?;

@@ -98,6 +98,15 @@ impl Fields {
         }
     }
 
+    /// Position 0 of these rules.
+    fn overall(&mut self, expected: &Record, found: &Record, rules: &[usize]) {
+        for rule in rules {
+            let name = format_args!("standing of rule {rule} at position 0");
+            let at = rule - 1;
+            self.compare(name, expected.overall[at], found.overall[at]);
+        }
+    }
+
     fn mismatch(self) -> Mismatch {
         let more = self.0.len().saturating_sub(SHOWN_FIELDS);
         let (expected, found): (Vec<String>, Vec<String>) =
@@ -124,11 +133,20 @@ pub fn differing_fields(expected: &Record, found: &Record) -> Mismatch {
         fields.compare(name, *event, found.events[index]);
     }
     fields.standings(expected, found, 16);
+    fields.overall(expected, found, &Vec::from_iter(1..=16));
     fields.mismatch()
 }
 
-/// The same for a run of the notebook: rule slots past the count, and the rows
-/// of rules that the table does not have, are not compared.
+/// The rules of the run's table that have position 0.
+fn overall_rules(run: &Record) -> Vec<usize> {
+    let rules = (1..).zip(&run.table.rules).take(run.table.count as usize);
+    let overall = rules.filter(|(_, rule)| (13..=16).contains(&rule.code));
+    overall.map(|(number, _)| number).collect()
+}
+
+/// The same for a run of the notebook: rule slots past the count, the rows of
+/// rules that the table does not have, and position 0 of these and of the rules 1
+/// to 12 are not compared.
 pub fn differing_used_fields(expected: &Record, found: &Record) -> Result<(), Mismatch> {
     let mut fields = Fields::default();
     fields.compare("closed", expected.closed, found.closed);
@@ -139,6 +157,7 @@ pub fn differing_used_fields(expected: &Record, found: &Record) -> Result<(), Mi
         fields.compare(name, *event, found.events[index]);
     }
     fields.standings(expected, found, expected.table.count as usize);
+    fields.overall(expected, found, &overall_rules(expected));
     match fields.0.is_empty() {
         true => Ok(()),
         false => Err(fields.mismatch()),
@@ -170,7 +189,7 @@ mod tests {
     use evaluator::{grown, start, Event, Rule, Standing, TableRecord};
 
     fn run() -> Record {
-        let rules = [Rule::new(2, 1, 2, 0, None), Rule::new(9, 1, 2, 0, None)];
+        let rules = [2, 9, 13].map(|code| Rule::new(code, 1, 2, 0, None));
         grown(&rules, &[Event::new(5, 1), Event::new(8, 1)])
     }
 
@@ -180,21 +199,24 @@ mod tests {
         other.closed = true;
         other.events[255].time = 9;
         other.standings[place(16, 256)] = Standing::Fulfilled(3);
+        other.overall[0] = Standing::Violated(7);
         let mismatch = differing_fields(&run(), &other);
         for part in [
             "closed: false",
             "event slot 255: ",
             "rule 16 at position 256: Idle",
+            "rule 1 at position 0: Idle",
         ] {
             assert!(mismatch.expected.contains(part), "{mismatch:?}");
         }
         assert!(mismatch.found.contains("position 256: Fulfilled(3)"));
+        assert!(mismatch.found.contains("position 0: Violated(7)"));
         assert!(mismatch.found.ends_with("(and 0 more)"));
     }
 
     #[test]
     fn every_used_field_of_a_notebook_run_is_compared() {
-        let changes: [fn(&mut Record); 7] = [
+        let changes: [fn(&mut Record); 8] = [
             |run| run.closed = true,
             |run| run.count = 3,
             |run| run.table.count = 1,
@@ -202,6 +224,7 @@ mod tests {
             |run| run.events[1].activity = 2,
             |run| run.events[2].activity = 2,
             |run| run.standings[place(2, 256)] = Standing::Open,
+            |run| run.overall[2] = Standing::Open,
         ];
         for change in changes {
             let mut other = run();
@@ -213,9 +236,11 @@ mod tests {
     #[test]
     fn unused_fields_of_a_notebook_run_are_free() {
         let mut other = run();
-        other.table.rules[2].code = 0;
+        other.table.rules[3].code = 0;
         other.table.rules[1].correlation.comparisons[0].reading = 0;
-        other.standings[place(3, 1)] = Standing::Open;
+        other.standings[place(4, 1)] = Standing::Open;
+        other.overall[0] = Standing::Open;
+        other.overall[3] = Standing::Violated(1);
         assert_eq!(differing_used_fields(&run(), &other), Ok(()));
     }
 

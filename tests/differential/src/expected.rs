@@ -1,8 +1,8 @@
 //! What the evaluator expects of an answer or a dump, and how far the bytes
 //! found agree with it.
 
-use crate::answer::{decode_run, decode_standings, decode_tally, Answer};
-use crate::answer::{ANSWER_BYTES, RUN_BYTES, STANDING_BYTES, TALLY_BYTES};
+use crate::answer::{decode_overall, decode_run, decode_standings, decode_tally, Answer};
+use crate::answer::{ANSWER_BYTES, OVERALL_BYTES, RUN_BYTES, STANDING_BYTES, TALLY_BYTES};
 use crate::bytes::Wrong;
 use crate::differ::{differing_bytes, differing_fields, differing_used_fields, Mismatch};
 use evaluator::{Event, Record, Rule, Standing, Tally};
@@ -20,10 +20,17 @@ pub enum Expected {
         codes: Vec<u8>,
         rows: Vec<Vec<Standing>>,
     },
+    /// The dump `z`: position 0 of each rule slot, `None` where it is free. The
+    /// template codes of the rules are for counting.
+    Overall {
+        codes: Vec<u8>,
+        cells: Vec<Option<Standing>>,
+    },
     /// The dump `D`, every slot of it.
     Run(Box<Record>),
-    /// The dump `D` after the notebook reading: what document 01 fixes of it.
-    /// The rule slots past the count and their rows are free.
+    /// The dump `D` after the notebook reading: what the documents fix of it. The
+    /// rule slots past the count and their rows are free, and so is position 0 of
+    /// these and of the rules 1 to 12.
     NotebookRun(Box<Record>),
     /// The dump `D` after a rules text: the rules of its table.
     Rules(Vec<Rule>),
@@ -50,6 +57,7 @@ impl Expected {
             Expected::Standings { rows, .. } => {
                 STANDING_BYTES * rows.iter().map(Vec::len).sum::<usize>()
             }
+            Expected::Overall { .. } => OVERALL_BYTES,
             Expected::Tally(_) => TALLY_BYTES,
             _ => RUN_BYTES,
         }
@@ -71,6 +79,10 @@ impl Expected {
                     Ok(rows.clone()),
                     decode_standings(found, rows.len(), positions),
                 )
+            }
+            Expected::Overall { cells, .. } => {
+                let found = decode_overall(found).map(|found| without_free(found, cells));
+                same(Ok(cells.clone()), found)
             }
             Expected::Tally(tally) => same(Ok(*tally), decode_tally(found)),
             _ => self.check_run(decode_run(found)),
@@ -95,6 +107,12 @@ impl Expected {
             other => panic!("{other:?} is no dump of a run"),
         }
     }
+}
+
+/// The cells found, but for those that are free.
+fn without_free(found: [Standing; 16], cells: &[Option<Standing>]) -> Vec<Option<Standing>> {
+    let pairs = found.iter().zip(cells);
+    pairs.map(|(found, cell)| cell.map(|_| *found)).collect()
 }
 
 fn same<T: PartialEq + Debug>(expected: T, found: T) -> Result<(), Mismatch> {

@@ -1,7 +1,7 @@
 //! Scripts for `probe`, each step with what the evaluator expects of it.
 
 use crate::answer::Answer;
-use crate::command::{buffer_of, Command};
+use crate::command::{buffer_of, cell_at_0, Command};
 use crate::expected::Expected;
 use evaluator::slots::{COMPARISON_SLOTS, RULE_SLOTS};
 use evaluator::{absorb, notebook_record, place, print_texts, read_cycle, read_rules, start};
@@ -126,7 +126,11 @@ impl Case {
                 self.send(Command::SetEvent { slot, event });
             }
         }
-        for (cell, standing) in (0..).zip(&run.standings) {
+        let cells = (0..).zip(&run.standings);
+        let at_0 = (1..)
+            .zip(&run.overall)
+            .map(|(rule, s)| (cell_at_0(rule), s));
+        for (cell, standing) in cells.chain(at_0) {
             if *standing != Standing::Idle {
                 let standing = *standing;
                 self.send(Command::SetStanding { cell, standing });
@@ -379,14 +383,51 @@ impl Session {
         (1..=self.run.table.count as usize).map(row).collect()
     }
 
-    /// Compares every standing of the rules at the taken positions.
+    /// The template codes of the table's rules.
+    fn codes(&self) -> Vec<u8> {
+        let rules = &self.run.table.rules;
+        let used = self.run.table.count.min(RULE_SLOTS as u64) as usize;
+        rules[..used].iter().map(|rule| rule.code).collect()
+    }
+
+    /// Whether a rule of the table has position 0.
+    pub fn has_position_0(&self, rule: u64) -> bool {
+        let codes = self.codes();
+        let found = (1..).zip(codes).find(|(number, _)| *number == rule);
+        found.is_some_and(|(_, code)| (13..=16).contains(&code))
+    }
+
+    /// Compares every standing of the rules at the taken positions, position 0 of
+    /// the rules 13 to 16 among them.
     pub fn compare_standings(&mut self) {
-        let used = &self.run.table.rules[..self.run.table.count as usize];
-        let expected = Expected::Standings {
-            codes: used.iter().map(|rule| rule.code).collect(),
-            rows: self.rows(),
-        };
+        let codes = self.codes();
+        let rows = self.rows();
+        let asks_for_0 = codes.iter().any(|code| *code >= 13);
+        let expected = Expected::Standings { codes, rows };
         self.case.ask(Command::DumpStandings, expected);
+        if asks_for_0 {
+            self.compare_position_0();
+        }
+    }
+
+    /// Compares position 0 of the rules 13 to 16.
+    fn compare_position_0(&mut self) {
+        let cells = (1..).zip(self.run.overall);
+        let cells = cells.map(|(rule, cell)| self.has_position_0(rule).then_some(cell));
+        let expected = Expected::Overall {
+            cells: cells.collect(),
+            codes: self.codes(),
+        };
+        self.case.ask(Command::DumpOverall, expected);
+    }
+
+    /// Compares position 0 of every rule slot.
+    pub fn compare_every_0(&mut self) {
+        let expected = Expected::Overall {
+            cells: self.run.overall.map(Some).to_vec(),
+            codes: self.codes(),
+        };
+        self.case.ask(Command::DumpOverall, expected);
     }
 
     /// Compares what document 01 fixes of a run of the notebook.

@@ -9,6 +9,7 @@ use evaluator::{absorb, notebook_record, place, read_cycle, read_rules, start, v
 use evaluator::{Comparison, ConditionSlot, Event, Operator, Record, Reference, Refusal};
 use evaluator::{RuleSlot, Standing, TableRecord, Tally, Text};
 
+mod overall;
 mod printed;
 mod targets;
 mod written;
@@ -101,12 +102,58 @@ pub enum Mistake {
     PrintsLargeTextsAs13,
     /// A print of two texts leaves the notebook's run.
     PrintsIntoTheRun,
+    /// Start leaves position 0 idle.
+    StartsIdle,
+    /// At position 0 the window runs from time 0.
+    WindowFromTimeZero,
+    /// At position 0 the window runs from the first event of the activation activity.
+    WindowFromTheActivation,
+    /// At position 0 the window runs from the last event.
+    WindowFromTheLast,
+    /// An event of the target activity fits an existence.
+    CountsTheTargetOf13,
+    /// An exclusive choice with one side seen is violated while it is open.
+    ViolatesOneSided,
+    /// An exclusive choice with one side seen is fulfilled while it is open.
+    FulfilsOneSided,
+    /// An exclusive choice with both sides seen has target 0.
+    NamesNoneOfBoth,
+    /// The latest event that fits is named at position 0.
+    NamesTheLatestFit,
+    /// An absence is open until close.
+    DecidesAbsenceAtClose,
+    /// Close turns an open position 0 into violated.
+    ClosesOverallToViolated,
+    /// A take clears position 0 of the rules 1 to 12.
+    ResetsPositionZero,
+    /// A record is refused with 11 if position 0 of a rule 1 to 12 is not idle.
+    ChecksEveryZero,
+    /// Totals count position 0 of the rules 1 to 12.
+    CountsEveryZero,
+    /// Standing and totals let a rule 13 to 16 be idle at position 0.
+    AllowsIdleAtZero,
+    /// Standing and totals let a rule 13 to 16 stand at events.
+    AllowsStandingsAtEvents,
+    /// Standing and totals let a target at position 0 be above the event count.
+    AllowsFarTargetsAtZero,
+    /// Standing and totals let position 0 be open in a closed run.
+    AllowsOpenAtZero,
+    /// 16 is looked for before 6.
+    MisfitBeforeWindow,
+    /// A correlation is no cause of 16, nor of 11 in a table.
+    AllowsCorrelation,
+    /// Equal activities are a cause of 16 under 13.
+    RefusesEqualUnder13,
+    /// The notebook leaves position 0 idle.
+    ReadsIdleAtZero,
+    /// Position 0 is not printed.
+    PrintsNoZero,
     /// The last four bytes of the answers are missing.
     EndsEarly,
 }
 
 impl Mistake {
-    pub const ALL: [Mistake; 42] = [
+    pub const ALL: [Mistake; 65] = [
         Mistake::NeverOpen,
         Mistake::JudgesAnew,
         Mistake::NamesTheEarliest,
@@ -148,6 +195,29 @@ impl Mistake {
         Mistake::ReportsUncheckedStandings,
         Mistake::PrintsLargeTextsAs13,
         Mistake::PrintsIntoTheRun,
+        Mistake::StartsIdle,
+        Mistake::WindowFromTimeZero,
+        Mistake::WindowFromTheActivation,
+        Mistake::WindowFromTheLast,
+        Mistake::CountsTheTargetOf13,
+        Mistake::ViolatesOneSided,
+        Mistake::FulfilsOneSided,
+        Mistake::NamesNoneOfBoth,
+        Mistake::NamesTheLatestFit,
+        Mistake::DecidesAbsenceAtClose,
+        Mistake::ClosesOverallToViolated,
+        Mistake::ResetsPositionZero,
+        Mistake::ChecksEveryZero,
+        Mistake::CountsEveryZero,
+        Mistake::AllowsIdleAtZero,
+        Mistake::AllowsStandingsAtEvents,
+        Mistake::AllowsFarTargetsAtZero,
+        Mistake::AllowsOpenAtZero,
+        Mistake::MisfitBeforeWindow,
+        Mistake::AllowsCorrelation,
+        Mistake::RefusesEqualUnder13,
+        Mistake::ReadsIdleAtZero,
+        Mistake::PrintsNoZero,
         Mistake::EndsEarly,
     ];
 }
@@ -286,7 +356,7 @@ impl State {
                 self.set_field(read);
                 after
             }
-            b'd' | b'D' | b'B' => {
+            b'd' | b'z' | b'D' | b'B' => {
                 self.dump(read.b(0));
                 after
             }
@@ -332,6 +402,9 @@ impl State {
             b'C' => self.run.count = read.n(),
             b'F' => self.run.closed = read.b(1) != 0,
             b'E' => self.run.events[at] = read.event(),
+            b'S' if at >= RULE_SLOTS * EVENT_SLOTS => {
+                self.run.overall[at - RULE_SLOTS * EVENT_SLOTS] = read.standing();
+            }
             b'S' => self.run.standings[at] = read.standing(),
             _ => {
                 self.tally = Tally {
@@ -361,9 +434,12 @@ impl State {
     }
 
     fn call(&mut self, read: &Read) {
+        if b"exgob".contains(&read.b(0)) && self.refuses_zeros() {
+            return self.answer(Some(Refusal::plain(11)), [0; 12]);
+        }
         match read.b(0) {
             b's' => {
-                let answer = start(&self.table).map(|run| self.run = run);
+                let answer = self.started().map(|run| self.run = run);
                 self.answer(answer.err(), [0; 12]);
             }
             b'e' => self.take(read.event()),
@@ -396,6 +472,7 @@ impl State {
         if answer.is_ok() {
             self.change_taken(&mut run);
             self.change_targets(&mut run);
+            self.change_position_0(&mut run);
         }
         self.run = run;
         self.answer(answer.err(), [0; 12]);
@@ -430,6 +507,9 @@ impl State {
                 }
             }
         }
+        if answer.is_ok() {
+            self.change_closed_0(&mut run);
+        }
         self.run = run;
         self.answer(answer.err(), [0; 12]);
     }
@@ -442,7 +522,8 @@ impl State {
     }
 
     fn standing(&mut self, rule: u64, position: u64) {
-        let answer = self.run.standing(self.number(rule), self.number(position));
+        let run = self.run_as_checked();
+        let answer = run.standing(self.number(rule), self.number(position));
         let mut rest = [0; 12];
         if let Ok(standing) = answer {
             let (kind, target) = kind_and_target(standing);
@@ -453,12 +534,13 @@ impl State {
     }
 
     fn totals(&mut self, rule: u64) {
-        let answer = self.run.totals(self.number(rule));
+        let answer = self.run_as_checked().totals(self.number(rule));
         let mut rest = [0; 12];
         if let Ok(mut totals) = answer {
             if self.has(Mistake::TotalsWithoutOpen) {
                 totals.activations -= totals.open;
             }
+            self.add_zero(self.number(rule), &mut totals);
             let four = [
                 totals.activations,
                 totals.fulfilled,
@@ -474,7 +556,8 @@ impl State {
 
     fn read_text(&mut self, letter: u8, text: &[u8]) {
         if letter == b'R' {
-            let answer = read_rules(text).map(|mut rules| {
+            let read = self.mistaken_rules(text, read_rules(text));
+            let answer = read.map(|mut rules| {
                 if self.has(Mistake::DropsComparisons) {
                     for rule in &mut rules {
                         rule.correlation.pop();
@@ -503,6 +586,9 @@ impl State {
                     run.standings.iter_mut().for_each(name_next);
                 }
                 self.change_read_targets(&mut run);
+                if self.has(Mistake::ReadsIdleAtZero) {
+                    run.overall.fill(Standing::Idle);
+                }
                 self.run = run;
                 None
             }
@@ -523,6 +609,10 @@ impl State {
                         self.answers.extend(standing_bytes(standing));
                     }
                 }
+            }
+            b'z' => {
+                let cells = self.run.overall.map(standing_bytes);
+                self.answers.extend(cells.concat());
             }
             b'D' => self.answers.extend(run_bytes(&self.run)),
             _ => {
@@ -574,7 +664,7 @@ fn run_bytes(run: &Record) -> Vec<u8> {
             bytes.extend(reading.unwrap_or(0).to_le_bytes());
         }
     }
-    for standing in &run.standings {
+    for standing in run.standings.iter().chain(&run.overall) {
         bytes.extend(standing_bytes(*standing));
     }
     bytes

@@ -35,7 +35,7 @@ fn crowded_runs() {
     assert_eq!([counts.calls('N'), counts.answered('N', 0)], [600; 2]);
     assert_eq!([counts.calls('p'), counts.answered('p', 0)], [600; 2]);
     assert!(counts.standings() >= 400_000);
-    for code in 1..=12 {
+    for code in 1..=16 {
         let [idle, _, fulfilled, with_target, violated, against_target] = counts.standings_of(code);
         let named = with_target + against_target;
         let none = fulfilled + violated;
@@ -56,11 +56,11 @@ fn crowded_runs_of_256_events() {
 
 #[test]
 fn crowded_records_with_any_standings() {
-    let seeds = 9_800_000..9_800_400;
+    let seeds = 9_800_000..9_800_500;
     targets_are_chosen(seeds.clone());
     let counts = agree(&Probe::find(), seeds.map(stale_case));
     assert_eq!(counts.numbers('e'), [0]);
-    assert!(counts.answered('e', 0) >= 500);
-    assert_eq!(counts.answered('x', 0), 400);
-    assert_eq!(counts.dumps('D'), counts.answered('e', 0) + 400);
+    assert!(counts.answered('e', 0) >= 600);
+    assert_eq!(counts.answered('x', 0), 500);
+    assert_eq!(counts.dumps('D'), counts.answered('e', 0) + 500);
 }

@@ -1,7 +1,7 @@
 //! Runs that no call grew. `probe` is needed with the commands on tables and
 //! runs.
 
-use differential::cases::causes::{allowed, base, causes};
+use differential::cases::causes::{allowed, base, causes, overall_base};
 use differential::cases::records::WRITTEN;
 use differential::cases::records::{allowed_case, ask_all_numbers, case, cause_case, stale_case};
 use differential::compare::agree;
@@ -39,7 +39,7 @@ fn what_is_no_cause_of_11() {
         .into_iter()
         .flat_map(|closed| allowed(closed).into_iter().map(|(_, run)| run))
         .collect();
-    let number = runs.len();
+    let (number, closed) = (runs.len(), allowed(true).len());
     assert!(number >= 200, "{number}");
     let counts = agree(
         &Probe::find(),
@@ -47,8 +47,8 @@ fn what_is_no_cause_of_11() {
             .zip(runs)
             .map(|(number, run)| allowed_case(number, run)),
     );
-    assert_eq!(counts.answered('e', 0), number / 2);
-    assert_eq!(counts.answered('e', 9), number / 2 * 4);
+    assert_eq!(counts.answered('e', 0), number - closed);
+    assert_eq!(counts.answered('e', 9), closed * 4);
     assert_eq!(counts.numbers('e'), [0, 3, 7, 9]);
     assert_eq!(counts.numbers('x'), [0, 9]);
     assert_eq!(counts.numbers('g'), [0, 10]);
@@ -141,8 +141,12 @@ fn numbers_of_rules_and_positions() {
         grown(&[Rule::new(2, 1, 2, 0, None)], &[]),
         grown(&[], &[Event::new(0, 1)]),
         grown(&[Rule::new(2, 1, 2, 0, None)], &[Event::new(0, 1)]),
+        grown(&[Rule::new(13, 1, 2, 0, None)], &[]),
+        grown(&[Rule::new(14, 1, 1, 0, None)], &[Event::new(0, 1)]),
         base(false),
         base(true),
+        overall_base(false),
+        overall_base(true),
         full_run(false),
         full_run(true),
     ];
@@ -151,9 +155,9 @@ fn numbers_of_rules_and_positions() {
         &Probe::find(),
         cases.map(|(number, run)| numbers_case(number, run)),
     );
-    assert_eq!(counts.calls('g'), 8 * 11 * 11);
-    assert_eq!(counts.calls('o'), 8 * (11 + 4));
-    assert!(counts.answered('g', 0) >= 20 && counts.answered('o', 0) >= 10);
+    assert_eq!(counts.calls('g'), 12 * 11 * 11);
+    assert_eq!(counts.calls('o'), 12 * (11 + 4));
+    assert!(counts.answered('g', 0) >= 40 && counts.answered('o', 0) >= 15);
     assert_eq!(counts.numbers('g'), [0, 10]);
     assert_eq!(counts.numbers('o'), [0, 10]);
 }

@@ -2,6 +2,7 @@
 //! error, and that it says there if it could not print in full.
 
 use differential::cases::crowded::crowd;
+use differential::cases::overall::table_and_cycle;
 use differential::cases::reports::{compare, files, texts_of, File};
 use differential::folder::Folder;
 use differential::report::Report;
@@ -76,6 +77,25 @@ fn crowded_texts() {
         let cycle = File::Bytes(write_cycle(&events));
         agree(&program, seed, &rules, &cycle);
     }
+}
+
+/// Rules about the cycle, also with no events, are printed as position 0.
+#[test]
+fn texts_of_rules_about_the_cycle() {
+    let program = Report::find();
+    let mut lines = 0;
+    for seed in 8_400_000..8_400_100 {
+        let (rules, events) = table_and_cycle(&mut Random::new(seed));
+        let rules = File::Bytes(write_rules(&rules));
+        let cycle = File::Bytes(write_cycle(&events));
+        let printed = String::from_utf8(report(rules.bytes(), cycle.bytes())).expect("ASCII");
+        lines += printed
+            .lines()
+            .filter(|line| line.contains("\t0\t"))
+            .count();
+        agree(&program, seed, &rules, &cycle);
+    }
+    assert!(lines >= 200, "{lines}");
 }
 
 /// Every pair of: absent, a folder, a lost link, empty, valid, of 32768 bytes, of

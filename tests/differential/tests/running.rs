@@ -10,15 +10,18 @@ use evaluator::Operator::{Equal, Less};
 use evaluator::Standing::{Fulfilled, Idle, Open, Violated};
 use evaluator::{Comparison, Event, Rule, Standing};
 
-/// Each template has shown every standing that it can have.
+/// Each template has shown every standing that it can have. Those about the cycle
+/// are idle at events and stand at position 0.
 fn every_template_is_shown(counts: &Counts, least: usize) {
-    for code in 1..=12 {
+    for code in 1..=16 {
         let past = [5, 6, 7, 10, 12].contains(&code);
-        let negative = code >= 8;
+        let negative = [8, 9, 10, 11, 12, 14].contains(&code);
         for (count, name) in counts.standings_of(code).iter().zip(SHOWN) {
             let possible = match name {
                 // A verdict on the past is decided on arrival.
                 "open" => !past,
+                // An exclusive choice is violated by none and by both.
+                "violated with a target" if code == 16 => true,
                 "fulfilled" | "violated with a target" => negative,
                 "violated" | "fulfilled with a target" => !negative,
                 _ => true,
@@ -56,22 +59,23 @@ fn runs_of_256_events() {
 }
 
 /// The rules of every template with these windows, whose target is the
-/// activation or another activity.
+/// activation, if it may be, or another activity.
 fn plain_rules() -> Vec<Rule> {
     let windows = [(0, None), (1, Some(2))];
     let mut rules = Vec::new();
-    for code in 1..=12 {
+    for code in 1..=16 {
         for (a, b) in windows {
-            rules.extend([1, 2].map(|target| Rule::new(code, 1, target, a, b)));
+            let both = [1, 2].map(|target| Rule::new(code, 1, target, a, b));
+            rules.extend(both.into_iter().filter(Rule::fits_its_template));
         }
     }
     rules
 }
 
-/// Every cycle of so many events from time 0 on with steps of 0, 1 or 2 and
+/// Every cycle of so many events from time 3 on with steps of 0, 1 or 2 and
 /// activities 1 to 3.
 fn short_cycles(length: usize) -> Vec<Vec<Event>> {
-    let mut cycles = vec![vec![at(0, 1)], vec![at(0, 2)], vec![at(0, 3)]];
+    let mut cycles = vec![vec![at(3, 1)], vec![at(3, 2)], vec![at(3, 3)]];
     for _ in 1..length {
         let longer = cycles.iter().flat_map(|cycle| {
             let last = cycle[cycle.len() - 1].time;
@@ -84,6 +88,7 @@ fn short_cycles(length: usize) -> Vec<Vec<Event>> {
 
 fn short_case(number: u64, rules: &[Rule], cycle: &[Event]) -> Case {
     let mut session = Session::started("short-cycles", number, &table_of(rules));
+    session.compare_standings();
     for event in cycle {
         session.take(*event).expect("a well-formed event");
         session.compare_standings();
@@ -96,7 +101,7 @@ fn short_case(number: u64, rules: &[Rule], cycle: &[Event]) -> Case {
 #[test]
 fn every_short_cycle() {
     let rules = plain_rules();
-    assert_eq!(rules.len(), 3 * 16);
+    assert_eq!(rules.len(), 14 * 4 + 2 * 2);
     let cycles = short_cycles(4);
     assert_eq!(cycles.len(), 3 * 9 * 9 * 9);
     let pairs = rules
@@ -107,7 +112,7 @@ fn every_short_cycle() {
         &Probe::find(),
         cases.map(|(number, (rules, cycle))| short_case(number, rules, cycle)),
     );
-    assert_eq!(counts.calls('e'), 3 * 2187 * 4);
+    assert_eq!(counts.calls('e'), 4 * 2187 * 4);
     assert_eq!(counts.numbers('e'), [0]);
     every_template_is_shown(&counts, 500);
 }

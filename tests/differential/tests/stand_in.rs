@@ -1,8 +1,8 @@
 //! The comparison itself: it agrees with the evaluator behind `probe`'s
 //! commands, and each kind of cases finds the mistakes that are put there.
 
-use differential::cases::{causes, crowded, notebook, printed, records, reported, running};
-use differential::cases::{tally, texts, written};
+use differential::cases::{causes, crowded, notebook, overall, printed, records, reported};
+use differential::cases::{running, tally, texts, written};
 use differential::compare::compare;
 use differential::script::Case;
 use differential::stand_in::{Mistake, StandIn};
@@ -18,6 +18,29 @@ fn crowded_cases() -> Vec<Case> {
 
 fn crowded_stale_cases() -> Vec<Case> {
     (1..=20).map(crowded::stale_case).collect()
+}
+
+fn overall_cases() -> Vec<Case> {
+    (1..=60).map(overall::case).collect()
+}
+
+fn overall_stale_cases() -> Vec<Case> {
+    (1..=60).map(overall::stale_case).collect()
+}
+
+fn overall_cause_cases() -> Vec<Case> {
+    let causes = (0..).zip(causes::overall_causes(true)).step_by(5);
+    let causes = causes.map(|(number, (_, run))| records::cause_case(number, run));
+    let allowed = (0..).zip(causes::overall_allowed(false)).step_by(2);
+    let allowed = allowed.map(|(number, (_, run))| records::allowed_case(number, run));
+    causes.chain(allowed).collect()
+}
+
+fn misfit_cases() -> Vec<Case> {
+    let texts = (1..).zip(texts::misfit_texts());
+    texts
+        .map(|(number, text)| texts::rules_text_case(number, text))
+        .collect()
 }
 
 fn record_cases() -> Vec<Case> {
@@ -105,6 +128,10 @@ fn the_evaluator_agrees_with_itself() {
         running_cases(),
         crowded_cases(),
         crowded_stale_cases(),
+        overall_cases(),
+        overall_stale_cases(),
+        overall_cause_cases(),
+        misfit_cases(),
         record_cases(),
         stale_cases(),
         cause_cases(),
@@ -129,12 +156,13 @@ fn the_evaluator_agrees_with_itself() {
         let accepted = counts.answered(letter, 0);
         assert!(accepted > 0 && counts.calls(letter) > accepted, "{letter}");
     }
+    assert!(counts.dumps('z') > 300, "{counts}");
 }
 
 /// A mistake, and the cases that have to find it.
 type Finder = (Mistake, fn() -> Vec<Case>);
 
-const FINDERS: [Finder; 76] = [
+const FINDERS: [Finder; 120] = [
     (Mistake::NeverOpen, running_cases),
     (Mistake::JudgesAnew, stale_cases),
     (Mistake::JudgesAnew, crowded_stale_cases),
@@ -210,6 +238,50 @@ const FINDERS: [Finder; 76] = [
     (Mistake::ReportsUncheckedStandings, reported_cause_cases),
     (Mistake::PrintsLargeTextsAs13, printed_cases),
     (Mistake::PrintsIntoTheRun, printed_cases),
+    (Mistake::StartsIdle, overall_cases),
+    (Mistake::StartsIdle, running_cases),
+    (Mistake::StartsIdle, notebook_cases),
+    (Mistake::WindowFromTimeZero, overall_cases),
+    (Mistake::WindowFromTimeZero, overall_stale_cases),
+    (Mistake::WindowFromTimeZero, running_cases),
+    (Mistake::WindowFromTheActivation, overall_cases),
+    (Mistake::WindowFromTheActivation, overall_stale_cases),
+    (Mistake::WindowFromTheLast, overall_cases),
+    (Mistake::WindowFromTheLast, overall_stale_cases),
+    (Mistake::CountsTheTargetOf13, overall_cases),
+    (Mistake::CountsTheTargetOf13, overall_stale_cases),
+    (Mistake::ViolatesOneSided, overall_cases),
+    (Mistake::ViolatesOneSided, overall_stale_cases),
+    (Mistake::FulfilsOneSided, overall_cases),
+    (Mistake::FulfilsOneSided, overall_stale_cases),
+    (Mistake::NamesNoneOfBoth, overall_cases),
+    (Mistake::NamesNoneOfBoth, overall_stale_cases),
+    (Mistake::NamesTheLatestFit, overall_stale_cases),
+    (Mistake::DecidesAbsenceAtClose, overall_cases),
+    (Mistake::DecidesAbsenceAtClose, overall_stale_cases),
+    (Mistake::DecidesAbsenceAtClose, running_cases),
+    (Mistake::ClosesOverallToViolated, overall_cases),
+    (Mistake::ClosesOverallToViolated, overall_stale_cases),
+    (Mistake::ClosesOverallToViolated, running_cases),
+    (Mistake::ResetsPositionZero, overall_stale_cases),
+    (Mistake::ResetsPositionZero, stale_cases),
+    (Mistake::ChecksEveryZero, overall_stale_cases),
+    (Mistake::ChecksEveryZero, overall_cause_cases),
+    (Mistake::CountsEveryZero, overall_stale_cases),
+    (Mistake::CountsEveryZero, overall_cause_cases),
+    (Mistake::AllowsIdleAtZero, overall_cause_cases),
+    (Mistake::AllowsStandingsAtEvents, overall_cause_cases),
+    (Mistake::AllowsFarTargetsAtZero, overall_cause_cases),
+    (Mistake::AllowsOpenAtZero, overall_cause_cases),
+    (Mistake::MisfitBeforeWindow, misfit_cases),
+    (Mistake::AllowsCorrelation, misfit_cases),
+    (Mistake::AllowsCorrelation, overall_cause_cases),
+    (Mistake::RefusesEqualUnder13, misfit_cases),
+    (Mistake::ReadsIdleAtZero, overall_cases),
+    (Mistake::ReadsIdleAtZero, pair_cases),
+    (Mistake::PrintsNoZero, overall_cases),
+    (Mistake::PrintsNoZero, printed_cases),
+    (Mistake::PrintsNoZero, reported_cases),
     (Mistake::EndsEarly, running_cases),
 ];
 

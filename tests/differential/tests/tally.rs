@@ -17,17 +17,54 @@ fn closed() -> Record {
     running().close().0
 }
 
+/// An existence that is fulfilled and an exclusive choice that is violated, each
+/// with the one activation at position 0.
+fn overall() -> Record {
+    let rules = [13, 16].map(|code| Rule::new(code, 1, 2, 0, None));
+    let run = grown(
+        &rules,
+        &[Event::new(0, 1), Event::new(1, 2), Event::new(2, 1)],
+    );
+    run.close().0
+}
+
 #[test]
 fn every_field_at_its_limit() {
-    let run = closed();
-    let cases = [edge_cases(1, &run, 1), edge_cases(2, &run, 2)];
+    let (run, overall) = (closed(), overall());
+    let cases = [
+        edge_cases(1, &run, 1),
+        edge_cases(2, &run, 2),
+        edge_cases(3, &overall, 1),
+        edge_cases(4, &overall, 2),
+    ];
     let counts = agree(&Probe::find(), cases);
-    assert_eq!(counts.calls('b'), 2 * 625);
-    assert_eq!(counts.dumps('B'), 2 * 625);
+    assert_eq!(counts.calls('b'), 4 * 625);
+    assert_eq!(counts.dumps('B'), 4 * 625);
     assert_eq!(counts.numbers('b'), [0, 14]);
     // A field is accepted at 0 and where it just reaches the largest number.
-    assert!(counts.answered('b', 0) >= 16 + 16);
-    assert!(counts.answered('b', 14) >= 800);
+    assert!(counts.answered('b', 0) >= 4 * 16);
+    assert!(counts.answered('b', 14) >= 1600);
+}
+
+/// "its total activations is 1": a tally gets 1 of each closed run.
+#[test]
+fn a_rule_about_the_cycle_is_absorbed_as_one_activation() {
+    let mut session = Session::on(WRITTEN, 0, overall());
+    for rule in [1, 2, 2] {
+        assert_eq!(session.absorb(rule), Ok(()));
+    }
+    let (empty, answer) = grown(&[Rule::new(14, 1, 1, 0, None)], &[]).close();
+    assert_eq!(answer, Ok(()));
+    session.load_run(empty);
+    assert_eq!(session.absorb(1), Ok(()));
+    let expected = Tally {
+        cycles: 4,
+        activations: 4,
+        fulfilled: 2,
+        violated: 2,
+    };
+    assert_eq!(session.tally, expected);
+    assert_eq!(agree(&Probe::find(), [session.case]).dumps('B'), 4);
 }
 
 /// "Tally: 11, 10, 9, 14", each alone and with the ones after it.

@@ -1,8 +1,8 @@
 //! The readers of the two texts and the notebook reading. `probe` is needed with
 //! the commands R, Y and N.
 
-use differential::cases::texts::{cycle_case, cycle_text_case, pair_case, pair_text_case};
-use differential::cases::texts::{rules_case, rules_text_case};
+use differential::cases::texts::{cycle_case, cycle_text_case, misfit_texts};
+use differential::cases::texts::{pair_case, pair_text_case, rules_case, rules_text_case};
 use differential::command::LARGEST_TEXT;
 use differential::compare::agree;
 use differential::probe::Probe;
@@ -13,7 +13,7 @@ use evaluator::listing::{CYCLE, RULES};
 fn random_rules_texts() {
     let counts = agree(&Probe::find(), (7_000_000..7_015_000).map(rules_case));
     assert_eq!(counts.calls('R'), 15_000);
-    assert_eq!(counts.numbers('R'), [0, 1, 2, 3, 4, 5, 6, 8, 12]);
+    assert_eq!(counts.numbers('R'), [0, 1, 2, 3, 4, 5, 6, 8, 12, 16]);
     for number in counts.numbers('R') {
         let found = counts.answered('R', number);
         assert!(found >= 25, "{number}: {found}");
@@ -37,10 +37,26 @@ fn random_cycle_texts() {
 fn random_pairs_of_texts() {
     let counts = agree(&Probe::find(), (7_200_000..7_205_000).map(pair_case));
     assert_eq!(counts.calls('N'), 5000);
-    assert_eq!(counts.numbers('N'), [0, 1, 2, 3, 4, 5, 6, 7, 8, 12]);
+    assert_eq!(counts.numbers('N'), [0, 1, 2, 3, 4, 5, 6, 7, 8, 12, 16]);
     assert!(counts.answered('N', 0) >= 2000);
     assert!(counts.dumps('D') > counts.answered('N', 0) + 50);
     assert!(counts.standings() >= 20_000);
+}
+
+/// 16 after the fields and 6, before 8, with its line.
+#[test]
+fn rules_that_do_not_fit_their_template() {
+    let texts = misfit_texts();
+    let number = texts.len();
+    let cases = (1..).zip(texts);
+    let cases = cases.map(|(number, text)| rules_text_case(number, text));
+    let counts = agree(&Probe::find(), cases);
+    assert_eq!(counts.calls('R'), number);
+    assert_eq!(counts.numbers('R'), [0, 3, 4, 5, 6, 8, 16]);
+    // Of the first lines alone: 8 for each code from 12 to 16; a correlation under
+    // 13 and 14, that or equal activities under 15 and 16.
+    let found = [6, 16].map(|answer| counts.answered('R', answer));
+    assert!(found[0] >= 5 * 8 && found[1] >= 2 * 4 + 2 * 6, "{found:?}");
 }
 
 /// The text with every byte in place of each of its bytes, with each byte left
@@ -61,14 +77,15 @@ fn byte_changes(text: &str) -> Vec<Vec<u8>> {
 
 #[test]
 fn every_change_of_one_byte_in_rules() {
-    let text = "12\t64\t1\t30\t50\t1!-7,2l0\t3g@4:10\n2\t1\t2\t0\t4294967295\t-\t-\n";
+    let text = "12\t64\t1\t30\t50\t1!-7,2l0\t3g@4:10\n2\t1\t2\t0\t4294967295\t-\t-\n\
+        16\t1\t2\t7\t-\t1g0\t-\n";
     let texts = byte_changes(text);
     let number = texts.len();
     let cases = (0..).zip(texts);
     let cases = cases.map(|(number, text)| rules_text_case(number, text));
     let counts = agree(&Probe::find(), cases);
     assert_eq!([counts.calls('R'), number], [text.len() * 269; 2]);
-    assert_eq!(counts.numbers('R'), [0, 1, 2, 3, 4, 5, 6, 12]);
+    assert_eq!(counts.numbers('R'), [0, 1, 2, 3, 4, 5, 6, 12, 16]);
 }
 
 #[test]
@@ -115,6 +132,7 @@ fn edge_values_in_every_field() {
     let rules = [
         field_changes("2\t1\t2\t3\t500\t-\t-\n"),
         field_changes("2\t1\t2\t3\t-\t1=1\t1=@1:0\n"),
+        field_changes("15\t1\t4\t3\t500\t1=1\t-\n"),
         comparison_changes(),
     ]
     .concat();
@@ -122,12 +140,12 @@ fn edge_values_in_every_field() {
     let cases = (0..).zip(rules);
     let counts = agree(&probe, cases.map(|(n, text)| rules_text_case(n, text)));
     assert_eq!(counts.calls('R'), number);
-    assert_eq!(number, 2 * 7 * 30 + 48 * 6);
-    assert!(counts.answered('R', 0) >= 60);
+    assert_eq!(number, 3 * 7 * 32 + 48 * 6);
+    assert!(counts.answered('R', 0) >= 80);
     let cycles = field_changes("5\t1\t0\t-\t-\t-\n");
     let cases = (0..).zip(cycles);
     let counts = agree(&probe, cases.map(|(n, text)| cycle_text_case(n, text)));
-    assert_eq!(counts.calls('Y'), 6 * 30);
+    assert_eq!(counts.calls('Y'), 6 * 32);
     assert!(counts.answered('Y', 0) >= 40);
 }
 

@@ -18,9 +18,10 @@ struct Timeline {
     line: String,
     rule: Rule,
     events: Vec<Event>,
-    /// That of the activation with the `*`.
+    /// That of the activation with the `*`, 0 for a line that begins with `start`.
     position: usize,
-    /// The standing after each take from that of the activation on.
+    /// The standing after each take from that of the activation on; at position 0
+    /// after start and after each take.
     live: Vec<Standing>,
     closed: Standing,
 }
@@ -69,22 +70,28 @@ fn timeline_of(rule: Rule, line: &str) -> Timeline {
         closed: standing_of(closed.trim()),
     };
     let mut words = taken.split_whitespace();
+    // A rule about the cycle stands from start on.
+    if timeline.rule.is_overall() {
+        assert_eq!(words.next(), Some("start"), "{line}");
+        let standing = words.next().expect("a standing");
+        timeline.live.push(standing_of(standing));
+    }
     while let Some(time) = words.next() {
         let event = words.next().expect("an event");
         timeline
             .events
             .push(event_of(time, event.trim_end_matches('*')));
         if event.ends_with('*') {
-            assert_eq!(timeline.position, 0, "two activations: {line}");
+            assert!(timeline.live.is_empty(), "two activations: {line}");
             timeline.position = timeline.events.len();
         }
         // Before the activation there are no brackets.
-        if timeline.position > 0 {
+        if timeline.position > 0 || timeline.rule.is_overall() {
             let standing = words.next().expect("a standing");
             timeline.live.push(standing_of(standing));
         }
     }
-    assert!(timeline.position > 0, "no activation: {line}");
+    assert!(!timeline.live.is_empty(), "no activation: {line}");
     timeline
 }
 
@@ -127,10 +134,12 @@ fn inside(word: &str, first: char, last: char) -> &str {
 #[test]
 fn every_timeline_is_found() {
     let timelines = timelines();
-    assert!(timelines.len() >= 50, "{}", timelines.len());
+    assert!(timelines.len() >= 70, "{}", timelines.len());
     assert_eq!(timelines.len(), section_2().matches(" close [").count());
     let codes: BTreeSet<u8> = timelines.iter().map(|t| t.rule.code).collect();
-    assert_eq!(codes, (1..=12).collect());
+    assert_eq!(codes, (1..=16).collect());
+    let overall = timelines.iter().filter(|t| t.rule.is_overall());
+    assert_eq!(overall.count(), section_2().matches("\nstart [").count());
 }
 
 #[test]
@@ -160,6 +169,9 @@ fn case_of(number: u64, timeline: &Timeline) -> Case {
     let mut case = Case::new("timelines", number);
     case.load_table(&table_of(std::slice::from_ref(&timeline.rule)));
     case.ask(Command::Start, done());
+    if timeline.position == 0 {
+        case.ask(ask.clone(), standing(timeline.live[0]));
+    }
     for (taken, event) in (1..).zip(&timeline.events) {
         case.ask(Command::Take(*event), done());
         if taken >= timeline.position {

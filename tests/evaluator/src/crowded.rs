@@ -1,5 +1,6 @@
 //! Seeded random rules and cycles in which many events are eligible, before an
-//! activation and after it, so that a target is one of several.
+//! activation and after it, or fit a rule about the cycle, so that a target is one
+//! of several.
 //!
 //! There are few activities, most windows are wide, and most conditions are
 //! empty or weak. All rules and cycles are valid.
@@ -10,23 +11,26 @@ use crate::verdict::{eligible, verdict};
 
 const LARGEST_TIME: u32 = World::DOCUMENT.largest_time;
 
-/// 1 and 8 alone look to both sides, so every second rule is one of these.
-const CODES: [u8; 20] = [
-    1, 1, 1, 1, 1, 2, 3, 4, 5, 6, 7, 8, 8, 8, 8, 8, 9, 10, 11, 12,
+/// 1 and 8 alone look to both sides, so about every second rule is one of these.
+const CODES: [u8; 24] = [
+    1, 1, 1, 1, 1, 2, 3, 4, 5, 6, 7, 8, 8, 8, 8, 8, 9, 10, 11, 12, 13, 14, 15, 16,
 ];
 
 /// A valid rule on the activities 1 and 2.
 pub fn crowded_rule(random: &mut Random) -> Rule {
     let code = random.pick(&CODES);
     let activation = random.pick(&[1, 1, 1, 2]);
-    let target = match random.one_in(4) {
+    let target = match code < 15 && random.one_in(4) {
         true => activation,
         false => 3 - activation,
     };
     let (a, b) = window(random);
-    Rule::new(code, activation, target, a, b)
-        .with_activation_condition(activation_condition(random))
-        .with_correlation(correlation(random))
+    let rule = Rule::new(code, activation, target, a, b)
+        .with_activation_condition(activation_condition(random));
+    match rule.is_overall() {
+        true => rule,
+        false => rule.with_correlation(correlation(random)),
+    }
 }
 
 /// A list of such rules.

@@ -33,6 +33,10 @@ pub enum Damage {
     RepeatComparison,
     /// In a rule's condition: another byte in place of an operator.
     OtherOperator,
+    /// In a rule: a code from 13 to 16 in place of its code.
+    OverallCode,
+    /// In a rule: its activation activity also as its target activity.
+    EqualActivities,
     /// One line more than the text may have.
     OneTooMany,
     /// As many lines as the text may have.
@@ -40,7 +44,7 @@ pub enum Damage {
 }
 
 impl Damage {
-    pub const ALL: [Damage; 22] = [
+    pub const ALL: [Damage; 24] = [
         Damage::ChangeByte,
         Damage::DropByte,
         Damage::DoubleByte,
@@ -61,13 +65,15 @@ impl Damage {
         Damage::MixedComparison,
         Damage::RepeatComparison,
         Damage::OtherOperator,
+        Damage::OverallCode,
+        Damage::EqualActivities,
         Damage::OneTooMany,
         Damage::Full,
     ];
 }
 
 /// Field contents at the edges of document 01's number form and ranges.
-pub const EDGE_FIELDS: [&str; 30] = [
+pub const EDGE_FIELDS: [&str; 32] = [
     "",
     "-",
     "0",
@@ -81,6 +87,8 @@ pub const EDGE_FIELDS: [&str; 30] = [
     "5",
     "12",
     "13",
+    "16",
+    "17",
     "64",
     "65",
     "255",
@@ -285,6 +293,12 @@ fn damage_fields(random: &mut Random, fields: &mut Vec<Vec<u8>>, kind: Damage) {
         Damage::DropField => drop(fields.remove(at)),
         Damage::DoubleField => fields.insert(at, fields[at].clone()),
         Damage::ReplaceField => fields[at] = edge_field(random),
+        Damage::OverallCode => {
+            let code = random.pick(&["13", "14", "15", "16"]);
+            fields[0] = code.as_bytes().to_vec();
+        }
+        Damage::EqualActivities if fields.len() > 2 => fields[2] = fields[1].clone(),
+        Damage::EqualActivities => {}
         _ => {
             // The conditions are the last two fields of a rule line.
             let back = 1 + random.below(2).min(fields.len() - 1);

@@ -10,6 +10,8 @@ use crate::slots::{ConditionSlot, RuleSlot, EVENT_SLOTS, RULE_SLOTS};
 #[derive(Debug, Clone, Copy, PartialEq, Eq, PartialOrd, Ord, Hash)]
 pub enum Part {
     Standing,
+    /// A standing at position 0.
+    Overall,
     EventSlot,
     EventCount,
     RuleSlot,
@@ -18,8 +20,9 @@ pub enum Part {
 }
 
 impl Part {
-    pub const ALL: [Part; 6] = [
+    pub const ALL: [Part; 7] = [
         Part::Standing,
+        Part::Overall,
         Part::EventSlot,
         Part::EventCount,
         Part::RuleSlot,
@@ -44,7 +47,12 @@ pub fn random_record(random: &mut Random, longest: usize) -> Record {
 /// The record with `changes` random changes.
 pub fn fabricated(random: &mut Random, mut record: Record, changes: usize) -> Record {
     for _ in 0..changes {
-        let parts = [Part::Standing, Part::Standing, Part::EventSlot];
+        let parts = [
+            Part::Standing,
+            Part::Standing,
+            Part::Overall,
+            Part::EventSlot,
+        ];
         let part = match random.one_in(2) {
             true => random.pick(&parts),
             false => random.pick(&Part::ALL),
@@ -58,6 +66,10 @@ pub fn fabricated(random: &mut Random, mut record: Record, changes: usize) -> Re
 pub fn change(random: &mut Random, record: &mut Record, part: Part) {
     match part {
         Part::Standing => change_standing(random, record),
+        Part::Overall => {
+            let rule = near(random, record.table.count, RULE_SLOTS);
+            record.overall[rule - 1] = any_standing(random, record.count, 0);
+        }
         Part::EventSlot => change_event(random, record),
         Part::EventCount => record.count = edge_count(random, record.count, EVENT_SLOTS as u64),
         Part::RuleSlot => {
@@ -85,15 +97,20 @@ fn near(random: &mut Random, count: u64, slots: usize) -> usize {
 fn change_standing(random: &mut Random, record: &mut Record) {
     let rule = near(random, record.table.count, RULE_SLOTS);
     let position = near(random, record.count, EVENT_SLOTS);
-    let count = record.count as u16;
+    record.standings[place(rule, position)] = any_standing(random, record.count, position);
+}
+
+/// Any standing at a position, with targets on both sides of the limit.
+fn any_standing(random: &mut Random, count: u64, position: usize) -> Standing {
+    let count = count as u16;
     let above = count.saturating_add(1);
     let target = random.pick(&[0, 0, 1, 1, position as u16, count, above, 256, 257, 65_535]);
-    record.standings[place(rule, position)] = match random.below(4) {
+    match random.below(4) {
         0 => Standing::Idle,
         1 => Standing::Open,
         2 => Standing::Fulfilled(target),
         _ => Standing::Violated(target),
-    };
+    }
 }
 
 fn change_event(random: &mut Random, record: &mut Record) {
@@ -122,10 +139,15 @@ fn edge_count(random: &mut Random, count: u64, limit: u64) -> u64 {
     }
 }
 
+/// Every code, and those beside the limits.
+const CHANGED_CODES: [u8; 19] = [
+    0, 1, 2, 3, 4, 5, 6, 7, 8, 9, 10, 11, 12, 13, 14, 15, 16, 17, 255,
+];
+
 fn change_rule(random: &mut Random, rule: &mut RuleSlot) {
     let activities = [0, 1, 2, 3, 64, 65, 255];
     match random.below(7) {
-        0 => rule.code = random.pick(&[0, 1, 2, 3, 4, 5, 6, 7, 8, 9, 10, 11, 12, 13, 255]),
+        0 => rule.code = random.pick(&CHANGED_CODES),
         1 => rule.activation = random.pick(&activities),
         2 => rule.target = random.pick(&activities),
         3 => rule.a = random.pick(&[0, 1, rule.end.unwrap_or(5), u32::MAX - 1, u32::MAX]),
@@ -161,8 +183,8 @@ fn random_reference(random: &mut Random) -> Reference {
 }
 
 /// Fills what no call reads with values outside every limit: the slots past
-/// the counts, and the rows of rules that the table does not have. The counts
-/// have to be within their limits.
+/// the counts, the rows of rules that the table does not have, and position 0 of
+/// these and of the rules 1 to 12. The counts have to be within their limits.
 pub fn fill_unused(random: &mut Random, record: &mut Record) {
     let rules = record.table.count as usize;
     let events = record.count as usize;
@@ -189,6 +211,23 @@ pub fn fill_unused(random: &mut Random, record: &mut Record) {
     for standing in &mut record.standings[rules * EVENT_SLOTS..] {
         *standing = random.pick(&junk);
     }
+    fill_unread_overall(random, record);
+}
+
+/// Gives position 0 of the rules 1 to 12 and of unused slots any standing.
+pub fn fill_unread_overall(random: &mut Random, record: &mut Record) {
+    let rules = record.table.count as usize;
+    let codes = record.table.rules.map(|rule| rule.code);
+    for (index, standing) in record.overall.iter_mut().enumerate() {
+        if index >= rules || !(13..=16).contains(&codes[index]) {
+            *standing = random.pick(&[
+                Standing::Idle,
+                Standing::Open,
+                Standing::Fulfilled(300),
+                Standing::Violated(65_535),
+            ]);
+        }
+    }
 }
 
 /// Gives the rules and events in use numbers with every count of digits, all of
@@ -209,10 +248,17 @@ pub fn spread_numbers(random: &mut Random, record: &mut Record) {
     }
 }
 
+/// A rule about the cycle stays one, so that its standings stay within the limits.
 fn spread_rule(random: &mut Random, rule: &mut RuleSlot) {
-    rule.code = 1 + random.below(12) as u8;
+    rule.code = match rule.code {
+        13..=16 => 13 + random.below(4) as u8,
+        _ => 1 + random.below(12) as u8,
+    };
     rule.activation = any_activity(random);
     rule.target = any_activity(random);
+    if rule.code >= 15 && rule.target == rule.activation {
+        rule.target = 65 - rule.activation;
+    }
     let (one, other) = (any_number(random), any_number(random));
     rule.a = one.min(other);
     rule.end = Some(one.max(other)).filter(|end| *end > rule.a && !random.one_in(4));

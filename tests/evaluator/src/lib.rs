@@ -2,13 +2,14 @@
 //!
 //! It states each notion of document 01 a second time, as the cards of document
 //! 02 change it, for tests that compare two answers. Positions count from 1, as
-//! in document 01.
+//! in document 01; position 0 is that of a rule about the cycle as such.
 //!
 //! Judging:
 //!
 //! - [`model`]: events, rules, standings and the limits on them ([`World`]).
 //! - [`condition`]: when a comparison holds and a condition is met.
-//! - [`mod@verdict`]: [`verdict()`] and [`verdicts`] judge a finished cycle.
+//! - [`mod@verdict`]: [`verdict()`] and [`verdicts`] judge a finished cycle,
+//!   [`overall`]: [`overall_verdict`] the rules 13 to 16 in it.
 //! - [`live`]: [`standing`], [`standing_at_last`] and [`standings`] judge a
 //!   running cycle by a search through its continuations.
 //!
@@ -47,6 +48,7 @@ pub mod listing;
 pub mod live;
 pub mod model;
 pub mod notebook;
+pub mod overall;
 pub mod random;
 pub mod record;
 pub mod refusal;
@@ -60,7 +62,8 @@ pub mod written;
 
 pub use live::{outcomes_in, standing, standing_at_last, standing_in, standings};
 pub use model::{is_cycle, Comparison, Event, Operator, Reference, Rule, Standing, World};
-pub use notebook::{notebook, notebook_record, Text};
+pub use notebook::{notebook, notebook_record, Row, Text};
+pub use overall::{fitting, overall_verdict};
 pub use record::{grown, place, start, Record, Totals};
 pub use refusal::Refusal;
 pub use report::{printed, report, report_of};

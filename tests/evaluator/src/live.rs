@@ -24,14 +24,24 @@
 //!    verdict changes only when an added event becomes eligible, and an
 //!    eligible added event stays so when all other added events are left out.
 //!    Lists of two are searched too, as a check on this.
+//! 5. Under 13 to 16 the verdict at position 0 reads an added event through its
+//!    activity, whether it meets the activation condition, and whether its time
+//!    is in the window of the first event. Points 2 to 4 hold of that window: a
+//!    verdict changes only when an added event fits, and it still fits when the
+//!    others are left out.
+//! 6. If there is no event yet, the first one added says where the window begins.
+//!    A continuation of no events is empty, or one of its own first event. So the
+//!    first events are searched, each with what may follow it. The earliest time
+//!    is enough for them: a list moved there is a continuation too, with the same
+//!    verdict. Those with a or b at the end of the range are searched as a check.
 
-use crate::condition::{holds, reference_value};
+use crate::condition::{holds, meets, reference_value};
 use crate::model::{is_cycle, Comparison, Event, Rule, Standing, World};
 use crate::verdict::{is_activation, suits, verdict};
 use std::collections::BTreeSet;
 
-/// The standing at `position` (1 to the number of events) under document 01's
-/// limits, if no event to come has a time below `horizon`.
+/// The standing at `position` (1 to the number of events, and 0 under 13 to 16)
+/// under document 01's limits, if no event to come has a time below `horizon`.
 pub fn standing(rule: &Rule, events: &[Event], horizon: u32, position: usize) -> Standing {
     standing_in(&World::DOCUMENT, rule, events, horizon, position)
 }
@@ -41,7 +51,7 @@ pub fn standing_at_last(rule: &Rule, events: &[Event], position: usize) -> Stand
     standing(rule, events, last_time(events), position)
 }
 
-/// The standings at all positions, with the last event's time as the horizon.
+/// The standings at all events, with the last event's time as the horizon.
 pub fn standings(rule: &Rule, events: &[Event]) -> Vec<Standing> {
     (1..=events.len())
         .map(|position| standing_at_last(rule, events, position))
@@ -66,7 +76,8 @@ pub fn standing_in(
     }
     // Where the verdict is decided, the target is too: the events at or before
     // the activation are all taken, and of those after it the first eligible
-    // one stays the first, for all added ones come after it.
+    // one stays the first, for all added ones come after it. So does the
+    // earliest that fits.
     assert_eq!(outcomes, BTreeSet::from([closed]), "the target changed");
     closed
 }
@@ -85,18 +96,20 @@ pub fn outcomes_in(
     if search.judge(&[]) {
         return search.outcomes;
     }
-    let activation = &events[position - 1];
     // "none with a time below that of the event before it": a horizon below
     // the last event's time adds nothing.
     let earliest = horizon.max(last_time(events));
-    let added = added_events(world, rule, activation, earliest);
-    for event in &added {
-        if search.judge(&[*event]) {
-            return search.outcomes;
-        }
+    match origin(events, position) {
+        Some(origin) => search.judge_added(world, origin, earliest),
+        None => search.judge_firsts(world, earliest),
     }
-    search.judge_pairs(&one_of_each_kind(rule, activation, &added));
     search.outcomes
+}
+
+/// The event that the window runs from: the activation, at position 0 the first
+/// event.
+fn origin(events: &[Event], position: usize) -> Option<&Event> {
+    events.get(position.max(1) - 1)
 }
 
 fn last_time(events: &[Event]) -> u32 {
@@ -137,6 +150,18 @@ impl<'a> Search<'a> {
         differ(&self.outcomes)
     }
 
+    /// Lists of one added event and of two.
+    fn judge_added(&mut self, world: &World, origin: &Event, earliest: u32) {
+        let times = critical_times(world, self.rule, origin.time, earliest);
+        let added = added_events(world, self.rule, origin, times);
+        for event in &added {
+            if self.judge(&[*event]) {
+                return;
+            }
+        }
+        self.judge_pairs(&self.one_of_each_kind(origin, &added));
+    }
+
     fn judge_pairs(&mut self, events: &[Event]) {
         for first in events {
             for second in events.iter().filter(|e| e.time >= first.time) {
@@ -146,14 +171,48 @@ impl<'a> Search<'a> {
             }
         }
     }
+
+    /// The first events of a cycle that has none, each with what may follow it;
+    /// see point 6 above.
+    fn judge_firsts(&mut self, world: &World, earliest: u32) {
+        let times = first_times(world, self.rule, earliest);
+        let added = added_events(world, self.rule, &Event::new(earliest, 1), times);
+        for first in self.one_of_each_kind(&Event::new(earliest, 1), &added) {
+            let then = outcomes_in(world, self.rule, &[first], first.time, self.position);
+            self.outcomes.extend(then);
+            if differ(&self.outcomes) {
+                return;
+            }
+        }
+    }
+
+    /// For each time, one event of each kind.
+    fn one_of_each_kind(&self, origin: &Event, events: &[Event]) -> Vec<Event> {
+        let mut seen = BTreeSet::new();
+        let fresh = |e: &&Event| seen.insert((e.time, kind(self.rule, origin, e)));
+        events.iter().filter(fresh).copied().collect()
+    }
 }
 
-/// The single events to try: every critical time, activity and list of
-/// readings.
-fn added_events(world: &World, rule: &Rule, activation: &Event, earliest: u32) -> Vec<Event> {
-    let readings = critical_readings(world, rule, activation);
+/// The facts through which a verdict reads an added event; see points 1 and 5
+/// above.
+fn kind(rule: &Rule, origin: &Event, event: &Event) -> (bool, bool) {
+    match rule.is_overall() {
+        true => {
+            let met = meets(&rule.activation_condition, event, event);
+            let has = |activity| met && event.activity == activity;
+            (has(rule.activation), has(rule.target))
+        }
+        false => (is_activation(rule, event), suits(rule, origin, event)),
+    }
+}
+
+/// The single events to try: each of these times with every critical activity and
+/// list of readings.
+fn added_events(world: &World, rule: &Rule, origin: &Event, times: Vec<u32>) -> Vec<Event> {
+    let readings = critical_readings(world, rule, origin);
     let mut events = Vec::new();
-    for time in critical_times(world, rule, activation.time, earliest) {
+    for time in times {
         for activity in critical_activities(world, rule) {
             events.extend(readings.iter().map(|readings| Event {
                 time,
@@ -165,26 +224,32 @@ fn added_events(world: &World, rule: &Rule, activation: &Event, earliest: u32) -
     events
 }
 
-/// For each time, one event of each kind; see point 1 above.
-fn one_of_each_kind(rule: &Rule, activation: &Event, events: &[Event]) -> Vec<Event> {
-    let mut seen = BTreeSet::new();
-    let kind = |e: &Event| (e.time, is_activation(rule, e), suits(rule, activation, e));
-    events
-        .iter()
-        .filter(|event| seen.insert(kind(event)))
-        .copied()
-        .collect()
+/// See point 2 above.
+fn critical_times(world: &World, rule: &Rule, start: u32, earliest: u32) -> Vec<u32> {
+    let start = i128::from(start);
+    let bounds = bounds(rule).map(|bound| start + bound);
+    times_near(world, earliest, bounds)
 }
 
-/// See point 2 above.
-fn critical_times(world: &World, rule: &Rule, activation_time: u32, earliest: u32) -> Vec<u32> {
-    let start = i128::from(activation_time);
-    let mut centres = vec![start + i128::from(rule.a)];
-    if let Some(b) = rule.b {
-        centres.push(start + i128::from(b) - 1);
-        centres.push(start + i128::from(b));
-    }
-    let near = centres.into_iter().flat_map(|c| c - 1..=c + 1);
+/// See point 6 above.
+fn first_times(world: &World, rule: &Rule, earliest: u32) -> Vec<u32> {
+    let end = i128::from(world.largest_time);
+    let bounds = bounds(rule).map(|bound| end - bound);
+    times_near(world, earliest, bounds)
+}
+
+/// The time differences at which "in the window" changes its truth: a and, if
+/// there is an end, the last one inside and b.
+fn bounds(rule: &Rule) -> impl Iterator<Item = i128> {
+    let b = rule.b.map(i128::from);
+    let ends = b.into_iter().flat_map(|b| [b - 1, b]);
+    std::iter::once(i128::from(rule.a)).chain(ends)
+}
+
+/// These times with their neighbours and the two ends of the range that is left,
+/// as far as they are in that range.
+fn times_near(world: &World, earliest: u32, times: impl Iterator<Item = i128>) -> Vec<u32> {
+    let near = times.flat_map(|time| time - 1..=time + 1);
     let ends = [earliest, world.largest_time].map(i128::from);
     let times: BTreeSet<i128> = near.chain(ends).collect();
     times

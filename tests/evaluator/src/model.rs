@@ -153,7 +153,7 @@ impl Comparison {
 /// A rule; `b` is `None` for a window without an end.
 #[derive(Debug, Clone, PartialEq, Eq, Hash)]
 pub struct Rule {
-    /// Template code, 1 to 12.
+    /// Template code, 1 to 16.
     pub code: u8,
     pub activation: u8,
     pub target: u8,
@@ -187,16 +187,37 @@ impl Rule {
         self
     }
 
-    /// Document 01's limits on a rule. A world narrows the activities alone:
-    /// a, b and k keep document 01's ranges, which their types are.
+    /// Whether the rule is one of the "rules about the cycle as such": existence
+    /// 13, absence 14, choice 15, exclusive choice 16. It is judged at position 0.
+    pub fn is_overall(&self) -> bool {
+        (13..=16).contains(&self.code)
+    }
+
+    /// Whether an event of the target activity counts as one of the activation
+    /// activity does. "For 13 and 14 the target activity is read, kept and not
+    /// judged."
+    pub fn has_two_activities(&self) -> bool {
+        [15, 16].contains(&self.code)
+    }
+
+    /// The limits on a rule. A world narrows the activities alone: a, b and k keep
+    /// document 01's ranges, which their types are.
     pub fn is_valid(&self, world: &World) -> bool {
-        (1..=12).contains(&self.code)
+        (1..=16).contains(&self.code)
             && world.has_activity(self.activation)
             && world.has_activity(self.target)
             && self.has_valid_window()
             && is_valid_condition(&self.activation_condition)
             && is_valid_condition(&self.correlation)
             && self.activation_condition.iter().all(has_constant)
+            && self.fits_its_template()
+    }
+
+    /// No "equal activities under 15 or 16, or a correlation under 13 to 16".
+    pub fn fits_its_template(&self) -> bool {
+        let equal = self.has_two_activities() && self.activation == self.target;
+        let correlated = self.is_overall() && !self.correlation.is_empty();
+        !equal && !correlated
     }
 
     /// "b (1 to 4294967295, or no end)" and "a < b".

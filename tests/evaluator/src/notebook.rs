@@ -2,6 +2,7 @@
 //! rules first, and answers a closed run; its refusal also says which text."
 
 use crate::model::{Event, Rule, Standing};
+use crate::overall::overall_verdict;
 use crate::record::{place, start, Record};
 use crate::refusal::Refusal;
 use crate::slots::TableRecord;
@@ -15,6 +16,25 @@ pub enum Text {
     Cycle,
 }
 
+/// The standings of a rule in a closed run.
+#[derive(Debug, Clone, PartialEq, Eq)]
+pub struct Row {
+    /// At position 0, which a rule 13 to 16 has alone.
+    pub overall: Option<Standing>,
+    /// At all events, in order.
+    pub events: Vec<Standing>,
+}
+
+impl Row {
+    /// The standings of a rule in a finished cycle.
+    pub fn of(rule: &Rule, events: &[Event]) -> Row {
+        Row {
+            overall: rule.is_overall().then(|| overall_verdict(rule, events)),
+            events: verdicts(rule, events),
+        }
+    }
+}
+
 /// The rules and the events of the two texts.
 pub fn read_texts(rules: &[u8], cycle: &[u8]) -> Result<(Vec<Rule>, Vec<Event>), (Text, Refusal)> {
     let rules = read_rules(rules).map_err(|refusal| (Text::Rules, refusal))?;
@@ -23,9 +43,9 @@ pub fn read_texts(rules: &[u8], cycle: &[u8]) -> Result<(Vec<Rule>, Vec<Event>),
 }
 
 /// The standings of the closed run: for each rule those at all positions.
-pub fn notebook(rules: &[u8], cycle: &[u8]) -> Result<Vec<Vec<Standing>>, (Text, Refusal)> {
+pub fn notebook(rules: &[u8], cycle: &[u8]) -> Result<Vec<Row>, (Text, Refusal)> {
     let (rules, events) = read_texts(rules, cycle)?;
-    Ok(all_verdicts(&rules, &events))
+    Ok(all_rows(&rules, &events))
 }
 
 /// The closed run as a record. Its slots past the counts are those of
@@ -36,13 +56,14 @@ pub fn notebook_record(rules: &[u8], cycle: &[u8]) -> Result<Record, (Text, Refu
     record.closed = true;
     record.count = events.len() as u64;
     record.events[..events.len()].copy_from_slice(&events);
-    for (index, row) in all_verdicts(&rules, &events).iter().enumerate() {
+    for (index, row) in all_rows(&rules, &events).iter().enumerate() {
         let first = place(index + 1, 1);
-        record.standings[first..first + row.len()].copy_from_slice(row);
+        record.standings[first..first + row.events.len()].copy_from_slice(&row.events);
+        record.overall[index] = row.overall.unwrap_or(Standing::Idle);
     }
     Ok(record)
 }
 
-fn all_verdicts(rules: &[Rule], events: &[Event]) -> Vec<Vec<Standing>> {
-    rules.iter().map(|rule| verdicts(rule, events)).collect()
+fn all_rows(rules: &[Rule], events: &[Event]) -> Vec<Row> {
+    rules.iter().map(|rule| Row::of(rule, events)).collect()
 }

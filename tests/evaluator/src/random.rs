@@ -47,8 +47,16 @@ impl Random {
     }
 }
 
-/// A random valid rule.
+/// A random valid rule; about one in three is about the cycle as such.
 pub fn random_rule(random: &mut Random) -> Rule {
+    match random.one_in(3) {
+        true => random_overall_rule(random),
+        false => random_event_rule(random),
+    }
+}
+
+/// A random valid rule of code 1 to 12.
+pub fn random_event_rule(random: &mut Random) -> Rule {
     let code = 1 + random.below(12) as u8;
     let activation = random_activity(random);
     let target = if random.one_in(3) {
@@ -60,6 +68,38 @@ pub fn random_rule(random: &mut Random) -> Rule {
     Rule::new(code, activation, target, a, b)
         .with_activation_condition(random_condition(random, false))
         .with_correlation(random_condition(random, true))
+}
+
+/// A random valid rule of code 13 to 16.
+pub fn random_overall_rule(random: &mut Random) -> Rule {
+    let code = 13 + random.below(4) as u8;
+    let activation = random_activity(random);
+    let other = random.pick(&[1, 2, 3, 64].map(|x| if x == activation { 9 } else { x }));
+    let target = match code {
+        13 | 14 if random.one_in(3) => activation,
+        _ => other,
+    };
+    let (a, b) = random_window(random);
+    let condition = match random.below(8) {
+        0 => unmeetable_condition(random),
+        1..=3 => Vec::new(),
+        _ => random_condition(random, false),
+    };
+    Rule::new(code, activation, target, a, b).with_activation_condition(condition)
+}
+
+/// A condition with a comparison that no reading meets.
+fn unmeetable_condition(random: &mut Random) -> Vec<Comparison> {
+    let mut condition = random_condition(random, false);
+    let never = match random.one_in(2) {
+        true => (Operator::Less, LEAST),
+        false => (Operator::Greater, LARGEST),
+    };
+    match condition.first_mut() {
+        Some(first) => (first.operator, first.reference) = (never.0, Reference::Constant(never.1)),
+        None => condition.push(Comparison::with_constant(3, never.0, never.1)),
+    }
+    condition
 }
 
 /// A list of random valid rules.
@@ -127,9 +167,24 @@ pub fn random_cycle(random: &mut Random, rules: &[Rule], length: usize) -> Vec<E
             event.readings[number - 1] = random.pick(&values);
         }
         events.push(event);
-        time = time.saturating_add(random.pick(&steps));
+        time = next_time(random, rules, &steps, &events);
     }
     events
+}
+
+/// A step after the last event, or a time at or beside an end of a window that
+/// runs from the first one.
+fn next_time(random: &mut Random, rules: &[Rule], steps: &[u32], events: &[Event]) -> u32 {
+    let (first, last) = (events[0].time, events[events.len() - 1].time);
+    let overall = rules.iter().filter(|rule| rule.is_overall());
+    let bounds = overall.flat_map(|rule| std::iter::once(rule.a).chain(rule.b));
+    let near = bounds.flat_map(|bound| [bound.saturating_sub(1), bound, bound.saturating_add(1)]);
+    let times = near.filter_map(|bound| first.checked_add(bound));
+    let times: Vec<u32> = times.filter(|time| *time >= last).collect();
+    match random.one_in(3) && !times.is_empty() {
+        true => random.pick(&times),
+        false => last.saturating_add(random.pick(steps)),
+    }
 }
 
 /// Repeated times, steps of 1, and steps beside each rule's a and b.

@@ -3,10 +3,12 @@
 //! A record may be handed in that no call gave back. Cause 11 names what is
 //! wrong in it; every other record is judged by its events, but for the
 //! decided standings, which are kept. The rows of rules that the table does not
-//! have are neither read nor changed.
+//! have are neither read nor changed, nor is position 0 of these and of the
+//! rules 1 to 12.
 
 use crate::live;
 use crate::model::{is_cycle, Event, Rule, Standing, World};
+use crate::overall::overall_verdict;
 use crate::refusal::Refusal;
 use crate::slots::{EventSlot, TableRecord, EVENT_SLOTS, RULE_SLOTS};
 
@@ -21,6 +23,8 @@ pub struct Record {
     pub events: Vec<EventSlot>,
     /// 16 rows of 256 standings; see [`place`].
     pub standings: Vec<Standing>,
+    /// Position 0 of each rule slot: under 13 to 16 the "one standing per run".
+    pub overall: [Standing; RULE_SLOTS],
 }
 
 /// "Totals are four numbers": each the count of such positions.
@@ -38,16 +42,20 @@ pub fn place(rule: usize, position: usize) -> usize {
 }
 
 /// "Start copies the table and gives a run not closed, with no events, each
-/// event slot at time 0, activity 1 and blank readings, each standing idle."
+/// event slot at time 0, activity 1 and blank readings, each standing idle." But
+/// the one of a rule 13 to 16 is "judged from start on".
 pub fn start(table: &TableRecord) -> Result<Record, Refusal> {
-    table.rules().ok_or(Refusal::plain(11))?;
-    Ok(Record {
+    let rules = table.rules().ok_or(Refusal::plain(11))?;
+    let mut run = Record {
         closed: false,
         table: table.clone(),
         count: 0,
         events: vec![Event::new(0, 1); EVENT_SLOTS],
         standings: vec![Standing::Idle; RULE_SLOTS * EVENT_SLOTS],
-    })
+        overall: [Standing::Idle; RULE_SLOTS],
+    };
+    run.judge_overall(&rules, |rule| live::standing_at_last(rule, &[], 0));
+    Ok(run)
 }
 
 /// "Close turns open into violated for 1 to 7, into fulfilled for 8 to 12,
@@ -80,8 +88,22 @@ impl Record {
         let rules = self.table.rules()?;
         let count = usize::try_from(self.count).ok()?;
         let events = self.events.get(..count)?;
-        let rows_right = (1..=rules.len()).all(|rule| self.row_is_right(rule, count));
+        let mut numbered = (1..).zip(&rules);
+        let rows_right = numbered.all(|(number, rule)| match rule.is_overall() {
+            true => self.overall_is_right(number, count),
+            false => self.row_is_right(number, count),
+        });
         (is_cycle(&World::DOCUMENT, events) && rows_right).then_some((rules, count))
+    }
+
+    /// Not "a record idle at 0 or not idle at an event"; its target and an open
+    /// one are limited as at an event. Slots past the count are no events yet, and
+    /// idle as they are for every rule.
+    fn overall_is_right(&self, rule: usize, count: usize) -> bool {
+        let standing = self.overall[rule - 1];
+        standing != Standing::Idle
+            && !is_wrong_taken(standing, count, self.closed)
+            && self.row(rule).iter().all(|s| *s == Standing::Idle)
     }
 
     fn row_is_right(&self, rule: usize, count: usize) -> bool {
@@ -139,6 +161,17 @@ impl Record {
                 }
             }
         }
+        let events = events.to_vec();
+        self.judge_overall(rules, |rule| live::standing_at_last(rule, &events, 0));
+    }
+
+    /// Gives each rule 13 to 16 that is not decided this standing at position 0.
+    fn judge_overall(&mut self, rules: &[Rule], judge: impl Fn(&Rule) -> Standing) {
+        for (rule, standing) in rules.iter().zip(&mut self.overall) {
+            if rule.is_overall() && !standing.is_decided() {
+                *standing = judge(rule);
+            }
+        }
     }
 
     /// Closes the run. "Close: 11, 9."
@@ -152,6 +185,9 @@ impl Record {
                         *standing = closed_standing(rule.code, *standing);
                     }
                 }
+                // "Close decides an open one by its formula."
+                let events = self.events[..count].to_vec();
+                self.judge_overall(&rules, |rule| overall_verdict(rule, &events));
                 self.closed = true;
                 (self, Ok(()))
             }
@@ -167,18 +203,28 @@ impl Record {
     }
 
     /// The standing of a rule at a position. "Standing and totals: 11, 10."
+    /// Position 0 of a rule 13 to 16 "counts as taken", "position 0 of other rules
+    /// is 10".
     pub fn standing(&self, rule: u64, position: u64) -> Result<Standing, Refusal> {
         let (rules, count) = self.checked()?;
         let rule = known(rule, rules.len())?;
+        if position == 0 && rules[rule - 1].is_overall() {
+            return Ok(self.overall[rule - 1]);
+        }
         let position = known(position, count)?;
         Ok(self.standings[place(rule, position)])
     }
 
     /// The totals of a rule: "activations (positions not idle ..), fulfilled,
-    /// violated, open, each the count of such positions".
+    /// violated, open, each the count of such positions". Under 13 to 16 position
+    /// 0 is one of them.
     pub fn totals(&self, rule: u64) -> Result<Totals, Refusal> {
         let (rules, count) = self.checked()?;
-        let taken = &self.row(known(rule, rules.len())?)[..count];
+        let rule = known(rule, rules.len())?;
+        let mut taken = self.row(rule)[..count].to_vec();
+        if rules[rule - 1].is_overall() {
+            taken.push(self.overall[rule - 1]);
+        }
         let number = |such: fn(&Standing) -> bool| taken.iter().filter(|s| such(s)).count() as u64;
         Ok(Totals {
             activations: number(|s| *s != Standing::Idle),
@@ -189,7 +235,7 @@ impl Record {
     }
 }
 
-/// "no such rule or position": rules and positions count from 1.
+/// "no such rule or position": rules and the positions of events count from 1.
 fn known(number: u64, count: usize) -> Result<usize, Refusal> {
     (1..=count)
         .find(|known| *known as u64 == number)

@@ -3,7 +3,7 @@
 //! printed ends with LF.
 
 use crate::model::Standing;
-use crate::notebook::{notebook, Text};
+use crate::notebook::{notebook, Row, Text};
 use crate::record::Record;
 use crate::refusal::Refusal;
 use crate::slots::EVENT_SLOTS;
@@ -52,7 +52,10 @@ pub fn printed(rules: &[u8], cycle: &[u8]) -> Vec<u8> {
 /// record is checked.
 pub fn report_of(run: &Record) -> Result<Vec<u8>, Refusal> {
     let (rules, count) = run.checked()?;
-    let activations = activations_of_cells(&run.standings, rules.len(), count);
+    let mut activations = activations_of_cells(&run.standings, rules.len(), count);
+    for (rule, _) in (1..).zip(&rules).filter(|(_, rule)| rule.is_overall()) {
+        activations.push(at_position_0(rule, run.overall[rule - 1]));
+    }
     Ok(lines(rules.len(), &activations).into_bytes())
 }
 
@@ -63,10 +66,20 @@ struct Activation {
     standing: Standing,
 }
 
-fn activations_of_rows(rows: &[Vec<Standing>]) -> Vec<Activation> {
+/// "`report` prints it as position 0."
+fn at_position_0(rule: usize, standing: Standing) -> Activation {
+    Activation {
+        rule,
+        position: 0,
+        standing,
+    }
+}
+
+fn activations_of_rows(rows: &[Row]) -> Vec<Activation> {
     let mut activations = Vec::new();
     for (rule, row) in (1..).zip(rows) {
-        for (position, standing) in (1..).zip(row) {
+        activations.extend(row.overall.map(|standing| at_position_0(rule, standing)));
+        for (position, standing) in (1..).zip(&row.events) {
             activations.push(Activation {
                 rule,
                 position,
@@ -78,7 +91,7 @@ fn activations_of_rows(rows: &[Vec<Standing>]) -> Vec<Activation> {
     activations
 }
 
-/// Those of so many rules and events among the 16 rows of 256 cells.
+/// Those at the events of so many rules and events among the 16 rows of 256 cells.
 fn activations_of_cells(cells: &[Standing], rules: usize, count: usize) -> Vec<Activation> {
     let numbered = cells.iter().enumerate().map(|(cell, standing)| Activation {
         rule: cell / EVENT_SLOTS + 1,

@@ -3,14 +3,14 @@
 //!
 //! "Lines are read downward, the first refusal ends it. In a line: 12, 1, then
 //! field by field 2 or 4, 3, 5 (in a condition comparison by comparison), then
-//! 6 or 7, then 8."
+//! 6 or 7, then 8." Card 3 of document 02 adds 16: "it follows 6".
 
 use crate::model::{Comparison, Event, Operator, Reference, Rule};
 use crate::refusal::Refusal;
 use crate::slots::{EVENT_SLOTS, RULE_SLOTS};
 use std::ops::RangeInclusive;
 
-const CODES: RangeInclusive<i128> = 1..=12;
+const CODES: RangeInclusive<i128> = 1..=16;
 const ACTIVITIES: RangeInclusive<i128> = 1..=64;
 /// Times and a.
 const TIMES: RangeInclusive<i128> = 0..=4_294_967_295;
@@ -85,9 +85,11 @@ fn rule_of(fields: &[&[u8]]) -> Result<Rule, u8> {
     if b.is_some_and(|b| b <= a) {
         return Err(6);
     }
-    Ok(Rule::new(code, activation, target, a, b)
+    let rule = Rule::new(code, activation, target, a, b)
         .with_activation_condition(activation_condition)
-        .with_correlation(correlation))
+        .with_correlation(correlation);
+    // "equal activities under 15 or 16, or a correlation under 13 to 16"
+    Some(rule).filter(Rule::fits_its_template).ok_or(16)
 }
 
 /// "A cycle line: time, activity, four readings."

@@ -3,17 +3,23 @@
 //! Each template is given as the list of positions that it admits. The
 //! eligible positions are those of the list that suit the activation. Whether
 //! there is one decides the verdict, and the nearest of them is its target.
+//!
+//! Rules 13 to 16 have no activation among the events; position 0 is theirs, see
+//! [`crate::overall`].
 
 use crate::condition::meets;
 use crate::model::{Event, Rule, Standing};
+use crate::overall::overall_verdict;
 use std::collections::BTreeSet;
 
 /// "An event is an activation of a rule if it has the activation activity and
-/// meets the activation condition."
+/// meets the activation condition." Under 13 to 16 none is: "position 0, in place
+/// of events, is its one activation".
 pub fn is_activation(rule: &Rule, event: &Event) -> bool {
     // The condition of a valid rule has constants alone, so the event that
     // stands for the activation here is never read.
-    event.activity == rule.activation && meets(&rule.activation_condition, event, event)
+    let fits = event.activity == rule.activation && meets(&rule.activation_condition, event, event);
+    fits && !rule.is_overall()
 }
 
 /// Whether a time lies in the window of an activation, after it or before it.
@@ -100,10 +106,13 @@ fn nearest(eligible: &BTreeSet<usize>, position: usize) -> Option<usize> {
     before.or(after).copied()
 }
 
-/// The standing at `position` (1 to the number of events) in a finished
-/// cycle: idle, fulfilled or violated. The target is the nearest eligible
-/// position, "or 0 if there is none".
+/// The standing at `position` (1 to the number of events, and 0 under 13 to 16) in
+/// a finished cycle: idle, fulfilled or violated. At an event the target is the
+/// nearest eligible position, "or 0 if there is none".
 pub fn verdict(rule: &Rule, events: &[Event], position: usize) -> Standing {
+    if position == 0 {
+        return overall_verdict(rule, events);
+    }
     if !is_activation(rule, &events[position - 1]) {
         return Standing::Idle;
     }
@@ -120,7 +129,7 @@ pub fn verdict(rule: &Rule, events: &[Event], position: usize) -> Standing {
     }
 }
 
-/// The standings at all positions of a finished cycle, in order.
+/// The standings at all events of a finished cycle, in order.
 pub fn verdicts(rule: &Rule, events: &[Event]) -> Vec<Standing> {
     (1..=events.len())
         .map(|position| verdict(rule, events, position))

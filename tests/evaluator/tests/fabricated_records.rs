@@ -4,8 +4,8 @@
 use evaluator::fabricate::{fabricated, fill_unused, random_event, random_record};
 use evaluator::random::Random;
 use evaluator::Standing::{self, Fulfilled, Idle, Open, Violated};
-use evaluator::{absorb, place, start, verdicts, write_cycle_of, write_rules_of};
-use evaluator::{ConditionSlot, Record, Reference, Refusal, RuleSlot, Tally};
+use evaluator::{absorb, place, start, write_cycle_of, write_rules_of};
+use evaluator::{ConditionSlot, Record, Reference, Refusal, Row, RuleSlot, Tally};
 use std::collections::BTreeMap;
 
 const OUTSIDE: Refusal = Refusal::plain(11);
@@ -32,7 +32,7 @@ fn wrong_condition(slot: &ConditionSlot, correlation: bool) -> bool {
 
 fn wrong_rule(rule: &RuleSlot) -> bool {
     rule.code == 0
-        || rule.code > 12
+        || rule.code > 16
         || rule.activation == 0
         || rule.activation > 64
         || rule.target == 0
@@ -40,6 +40,8 @@ fn wrong_rule(rule: &RuleSlot) -> bool {
         || rule.end.is_some_and(|end| end <= rule.a)
         || wrong_condition(&rule.activation_condition, false)
         || wrong_condition(&rule.correlation, true)
+        || (rule.code > 12 && rule.correlation.count > 0)
+        || (rule.code > 14 && rule.activation == rule.target)
 }
 
 fn wrong_table(record: &Record) -> bool {
@@ -70,10 +72,15 @@ fn is_outside(record: &Record) -> bool {
         return true;
     }
     (1..=record.table.count as usize).any(|rule| {
-        (1..=256).any(|position| {
-            let standing = record.standings[place(rule, position)];
-            wrong_standing(record, position as u64, standing)
-        })
+        let overall = record.table.rules[rule - 1].code > 12;
+        let at_0 = record.overall[rule - 1];
+        let wrong_at_0 = overall && (at_0 == Idle || wrong_standing(record, 0, at_0));
+        wrong_at_0
+            || (1..=256).any(|position| {
+                let standing = record.standings[place(rule, position)];
+                let idle = standing == Idle;
+                overall && !idle || wrong_standing(record, position as u64, standing)
+            })
     })
 }
 
@@ -160,7 +167,8 @@ fn refusals_of_take_come_in_their_order() {
 }
 
 /// What an accepted take may change: the count, one event slot, and the
-/// undecided standings of the table's rules up to the new count.
+/// undecided standings of the table's rules up to the new count, position 0 of
+/// the rules about the cycle among them.
 #[test]
 fn take_changes_nothing_else() {
     let mut random = Random::new(43);
@@ -182,6 +190,9 @@ fn take_changes_nothing_else() {
                 if !before.standings[at].is_decided() {
                     expected.standings[at] = after.standings[at];
                 }
+            }
+            if before.table.rules[rule - 1].code > 12 && before.overall[rule - 1] == Open {
+                expected.overall[rule - 1] = after.overall[rule - 1];
             }
         }
         assert!(after == expected);
@@ -205,6 +216,8 @@ fn undecided_records_close_with_the_finished_verdicts() {
                 *standing
             };
         }
+        // A rule about the cycle is not idle there.
+        record.overall = record.overall.map(|s| if s == Idle { s } else { Open });
         let event = random_event(&mut random, &record);
         let (next, answer) = record.take(event);
         if answer.is_err() {
@@ -216,8 +229,11 @@ fn undecided_records_close_with_the_finished_verdicts() {
         let rules = closed.table.rules().expect("a valid table");
         for (index, rule) in rules.iter().enumerate() {
             let first = place(index + 1, 1);
-            let row = &closed.standings[first..first + events.len()];
-            assert_eq!(row, verdicts(rule, events), "{rule:?} {events:?}");
+            let row = Row {
+                overall: rule.is_overall().then_some(closed.overall[index]),
+                events: closed.standings[first..first + events.len()].to_vec(),
+            };
+            assert_eq!(row, Row::of(rule, events), "{rule:?} {events:?}");
             judged += events.len();
         }
     }
@@ -234,9 +250,11 @@ fn totals_and_tally_agree_with_the_standings() {
             continue;
         }
         for rule in 1..=record.table.count {
-            let row: Vec<Standing> = (1..=record.count)
-                .map(|position| record.standing(rule, position).expect("a standing"))
+            let row: Vec<Standing> = (0..=record.count)
+                .filter_map(|position| record.standing(rule, position).ok())
                 .collect();
+            let overall = record.table.rules[rule as usize - 1].code > 12;
+            assert_eq!(row.len() as u64, record.count + u64::from(overall));
             let totals = record.totals(rule).expect("totals");
             let number = |kind: fn(Standing) -> bool| row.iter().filter(|s| kind(**s)).count();
             assert_eq!(totals.open, number(|s| s == Open) as u64);

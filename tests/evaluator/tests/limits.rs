@@ -55,9 +55,9 @@ fn times_may_repeat_but_never_fall() {
 }
 
 #[test]
-fn codes_run_from_1_to_12_and_activities_from_1_to_64() {
-    let code = |code| Rule::new(code, 1, 1, 0, None).is_valid(&DOCUMENT);
-    assert_eq!([0, 1, 12, 13].map(code), [false, true, true, false]);
+fn codes_run_from_1_to_16_and_activities_from_1_to_64() {
+    let code = |code| Rule::new(code, 1, 2, 0, None).is_valid(&DOCUMENT);
+    assert_eq!([0, 1, 16, 17].map(code), [false, true, true, false]);
     let activation = |x| Rule::new(1, x, 1, 0, None).is_valid(&DOCUMENT);
     assert_eq!([0, 1, 64, 65].map(activation), [false, true, true, false]);
     let target = |x| Rule::new(1, 1, x, 0, None).is_valid(&DOCUMENT);
@@ -74,6 +74,22 @@ fn b_is_above_a() {
     assert!(!window(5, Some(5)));
     assert!(!window(6, Some(5)));
     assert!(!window(4_294_967_295, Some(4_294_967_295)));
+}
+
+/// "equal activities under 15 or 16, or a correlation under 13 to 16"
+#[test]
+fn rules_about_the_cycle_fit_their_template() {
+    let equal = |code| Rule::new(code, 3, 3, 0, None).is_valid(&DOCUMENT);
+    assert_eq!([12, 13, 14].map(equal), [true; 3]);
+    assert_eq!([15, 16].map(equal), [false; 2]);
+    let correlation = vec![Comparison::with_constant(1, Equal, 0)];
+    for code in 1..=16 {
+        let rule = Rule::new(code, 1, 2, 0, None);
+        let correlated = rule.clone().with_correlation(correlation.clone());
+        assert_eq!(correlated.is_valid(&DOCUMENT), code <= 12, "{code}");
+        let conditioned = rule.with_activation_condition(correlation.clone());
+        assert!(conditioned.is_valid(&DOCUMENT), "{code}");
+    }
 }
 
 fn with_conditions(activation: Vec<Comparison>, correlation: Vec<Comparison>) -> bool {

@@ -93,7 +93,7 @@ fn crowded_pair(random: &mut Random) -> (Rule, Vec<Event>) {
 fn crowded_rules_and_cycles() {
     let mut random = Random::new(72);
     let mut choices = Choices::default();
-    for _ in 0..5000 {
+    for _ in 0..6000 {
         let (rule, events) = crowded_pair(&mut random);
         compare(&rule, &events, &mut choices);
     }

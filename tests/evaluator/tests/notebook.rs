@@ -3,7 +3,8 @@
 
 use evaluator::listing::{CYCLE, RULES};
 use evaluator::Standing::{Fulfilled, Idle, Violated};
-use evaluator::{grown, notebook, notebook_record, read_cycle, read_rules, Refusal, Text};
+use evaluator::{grown, notebook, notebook_record, read_cycle, read_rules};
+use evaluator::{Refusal, Row, Standing, Text};
 
 fn refused(rules: &str, cycle: &str) -> (Text, Refusal) {
     let refusal = notebook(rules.as_bytes(), cycle.as_bytes()).expect_err("a refusal");
@@ -12,11 +13,19 @@ fn refused(rules: &str, cycle: &str) -> (Text, Refusal) {
     refusal
 }
 
+/// A rule that has no position 0.
+fn at_events(events: &[Standing]) -> Row {
+    Row {
+        overall: None,
+        events: events.to_vec(),
+    }
+}
+
 #[test]
 fn the_listing_through_the_texts() {
     let expected = vec![
-        vec![Fulfilled(2), Idle, Idle, Idle, Violated(0), Idle],
-        vec![Idle, Idle, Fulfilled(2), Violated(0), Idle, Idle],
+        at_events(&[Fulfilled(2), Idle, Idle, Idle, Violated(0), Idle]),
+        at_events(&[Idle, Idle, Fulfilled(2), Violated(0), Idle, Idle]),
     ];
     assert_eq!(notebook(RULES.as_bytes(), CYCLE.as_bytes()), Ok(expected));
 }
@@ -47,7 +56,8 @@ fn the_closed_run_is_the_grown_one() {
 #[test]
 fn no_rules_and_no_events() {
     assert_eq!(notebook(b"", CYCLE.as_bytes()), Ok(vec![]));
-    assert_eq!(notebook(RULES.as_bytes(), b""), Ok(vec![vec![], vec![]]));
+    let none = vec![at_events(&[]); 2];
+    assert_eq!(notebook(RULES.as_bytes(), b""), Ok(none));
     assert_eq!(notebook(b"", b""), Ok(vec![]));
     let record = notebook_record(b"", b"").expect("a run");
     assert_eq!(

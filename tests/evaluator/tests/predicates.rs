@@ -2,12 +2,12 @@
 //! two positions: an eligible pair, the window as a difference of times, and
 //! "no activation of the rule at any position strictly between" and the choice
 //! of the target as quantifiers. The evaluator goes by lists of positions and
-//! ranges of times.
+//! ranges of times. So also for the rules about the cycle, at position 0.
 
 use evaluator::crowded::{crowded_cycle, crowded_rule};
 use evaluator::random::{random_cycle, random_rule, Random};
 use evaluator::Standing::{self, Fulfilled, Idle, Violated};
-use evaluator::{verdicts, Comparison, Event, Operator, Reference, Rule};
+use evaluator::{verdict, verdicts, Comparison, Event, Operator, Reference, Rule};
 
 fn compares(comparison: &Comparison, tested: &Event, activation: &Event) -> bool {
     let Some(left) = tested.readings[usize::from(comparison.reading - 1)] else {
@@ -33,9 +33,13 @@ fn compares(comparison: &Comparison, tested: &Event, activation: &Event) -> bool
     }
 }
 
-fn activates(rule: &Rule, event: &Event) -> bool {
+fn meets(rule: &Rule, event: &Event) -> bool {
     let mut condition = rule.activation_condition.iter();
-    event.activity == rule.activation && condition.all(|c| compares(c, event, event))
+    condition.all(|c| compares(c, event, event))
+}
+
+fn activates(rule: &Rule, event: &Event) -> bool {
+    rule.code <= 12 && event.activity == rule.activation && meets(rule, event)
 }
 
 fn fits(rule: &Rule, activation: &Event, event: &Event) -> bool {
@@ -84,12 +88,53 @@ fn by_predicate(rule: &Rule, events: &[Event], i: usize) -> Standing {
     }
 }
 
+/// Whether position j has an activity of the rule inside the window.
+fn occurs(rule: &Rule, events: &[Event], activity: u8, j: usize) -> bool {
+    let event = &events[j - 1];
+    let difference = event.time - events[0].time;
+    event.activity == activity
+        && meets(rule, event)
+        && difference >= rule.a
+        && rule.b.is_none_or(|b| difference < b)
+}
+
+/// "the earliest event that fits (under 15 and 16, for either activity)": none
+/// before it does.
+fn is_earliest(rule: &Rule, events: &[Event], j: usize) -> bool {
+    let fits = |k: usize| {
+        occurs(rule, events, rule.activation, k)
+            || rule.code >= 15 && occurs(rule, events, rule.target, k)
+    };
+    fits(j) && (1..j).all(|k| !fits(k))
+}
+
+fn at_position_0(rule: &Rule, events: &[Event]) -> Standing {
+    let some = |activity| (1..=events.len()).any(|j| occurs(rule, events, activity, j));
+    let holds = match rule.code {
+        13 => some(rule.activation),
+        14 => !some(rule.activation),
+        15 => some(rule.activation) || some(rule.target),
+        _ => some(rule.activation) != some(rule.target),
+    };
+    let named = (1..=events.len()).find(|j| is_earliest(rule, events, *j));
+    let target = named.unwrap_or(0) as u16;
+    match holds {
+        true => Fulfilled(target),
+        false => Violated(target),
+    }
+}
+
 /// How many verdicts were compared: not idle, and with a target.
 fn compare(rule: &Rule, events: &[Event]) -> (usize, usize) {
-    let expected: Vec<Standing> = (1..=events.len())
+    let mut expected: Vec<Standing> = (1..=events.len())
         .map(|i| by_predicate(rule, events, i))
         .collect();
     assert_eq!(verdicts(rule, events), expected, "{rule:?} {events:?}");
+    if rule.code >= 13 {
+        let overall = at_position_0(rule, events);
+        assert_eq!(verdict(rule, events, 0), overall, "{rule:?} {events:?}");
+        expected.push(overall);
+    }
     let judged = expected.iter().filter(|s| **s != Idle);
     let named = expected
         .iter()
@@ -99,10 +144,13 @@ fn compare(rule: &Rule, events: &[Event]) -> (usize, usize) {
 
 #[test]
 fn every_cycle_of_five_events_and_three_activities() {
-    for code in 1..=12 {
+    for code in 1..=16 {
         for target in [1, 2] {
             for (a, b) in [(0, None), (1, None), (0, Some(2)), (1, Some(3))] {
                 let rule = Rule::new(code, 1, target, a, b);
+                if target == 1 && code >= 15 {
+                    continue;
+                }
                 for number in 0..3_u32.pow(5) {
                     let activity = |at: u32| (number / 3_u32.pow(at) % 3 + 1) as u8;
                     // The times 0, 0, 1, 1, 2 repeat.

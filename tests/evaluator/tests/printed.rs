@@ -288,12 +288,17 @@ fn the_longest_print_of_two_texts() {
 fn asked(run: &Record) -> Vec<String> {
     let mut lines = Vec::new();
     for rule in 1..=run.table.count {
-        for position in 1..=run.count {
-            let shown = match run.standing(rule, position).expect("a standing") {
-                Idle => continue,
-                Open => "O\t0".to_string(),
-                Fulfilled(target) => format!("F\t{target}"),
-                Violated(target) => format!("V\t{target}"),
+        for position in 0..=run.count {
+            let shown = match run.standing(rule, position) {
+                Err(refusal) => {
+                    // Only a rule about the cycle has position 0.
+                    assert_eq!((refusal.number, position), (10, 0));
+                    continue;
+                }
+                Ok(Idle) => continue,
+                Ok(Open) => "O\t0".to_string(),
+                Ok(Fulfilled(target)) => format!("F\t{target}"),
+                Ok(Violated(target)) => format!("V\t{target}"),
             };
             lines.push(format!("{rule}\t{position}\t{shown}"));
         }
@@ -308,7 +313,7 @@ fn asked(run: &Record) -> Vec<String> {
 #[test]
 fn a_report_has_what_standing_and_totals_answer() {
     let mut random = Random::new(62);
-    let (mut open, mut closed) = (0, 0);
+    let (mut open, mut closed, mut overall) = (0, 0, 0);
     for _ in 0..1000 {
         let run = random_record(&mut random, 7);
         let text = report_text(&run);
@@ -316,8 +321,10 @@ fn a_report_has_what_standing_and_totals_answer() {
         assert!(text.is_empty() || text.ends_with('\n'));
         open += usize::from(text.contains("\tO\t0\n"));
         closed += usize::from(run.closed);
+        overall += text.lines().filter(|line| line.contains("\t0\t")).count();
     }
     assert!(open >= 40 && closed >= 200, "{open} {closed}");
+    assert!(overall >= 500, "{overall}");
 }
 
 /// Two texts are printed as the notebook's run is, and as two files are.

@@ -3,9 +3,9 @@
 
 use evaluator::fabricate::random_event;
 use evaluator::random::{random_rules, Random};
-use evaluator::Standing::{self, Idle};
-use evaluator::{is_activation, notebook, notebook_record, start, verdicts, write_cycle};
-use evaluator::{write_rules, Event, Record, Refusal, Rule, TableRecord};
+use evaluator::Standing::Idle;
+use evaluator::{is_activation, notebook, notebook_record, start, write_cycle};
+use evaluator::{write_rules, Event, Record, Refusal, Row, Rule, TableRecord};
 use std::collections::BTreeSet;
 
 /// "an event with a number outside its range is refused with 3, else one with a
@@ -26,10 +26,26 @@ fn listed(list: &mut Vec<Event>, event: Event) -> Result<(), Refusal> {
     Ok(())
 }
 
-fn row(record: &Record, rule: usize) -> Vec<Standing> {
-    (1..=record.count)
-        .map(|position| record.standing(rule as u64, position).expect("a standing"))
-        .collect()
+/// The answers at position 0, if the rule has it, and at the events.
+fn row(record: &Record, rule: usize) -> Row {
+    let asked = |position| record.standing(rule as u64, position);
+    Row {
+        overall: asked(0).ok(),
+        events: (1..=record.count)
+            .map(|position| asked(position).expect("a standing"))
+            .collect(),
+    }
+}
+
+/// Whether each event of a row is an activation, and how many positions are.
+fn activations(rule: &Rule, taken: &[Event]) -> (Vec<bool>, u64) {
+    let fits: Vec<bool> = taken.iter().map(|e| is_activation(rule, e)).collect();
+    let fitting = fits.iter().filter(|fits| **fits).count() as u64;
+    match rule.code {
+        // "position 0, in place of events, is its one activation"
+        13..=16 => (vec![false; taken.len()], 1),
+        _ => (fits, fitting),
+    }
 }
 
 /// "Every other taken event stands idle under that rule", and "each rule's
@@ -40,11 +56,12 @@ fn rows_are_right(record: &Record, rules: &[Rule], taken: &[Event]) {
     assert_eq!(&record.events[..taken.len()], taken);
     for (index, rule) in rules.iter().enumerate() {
         let row = row(record, index + 1);
-        let fits: Vec<bool> = taken.iter().map(|e| is_activation(rule, e)).collect();
-        let stands: Vec<bool> = row.iter().map(|s| *s != Idle).collect();
+        let (fits, fitting) = activations(rule, taken);
+        let stands: Vec<bool> = row.events.iter().map(|s| *s != Idle).collect();
         assert_eq!(stands, fits, "{rule:?}");
+        assert_eq!(row.overall.is_some(), rule.code >= 13);
+        assert_ne!(row.overall, Some(Idle));
         let totals = record.totals(index as u64 + 1).expect("totals");
-        let fitting = fits.iter().filter(|fits| **fits).count() as u64;
         assert_eq!(totals.activations, fitting);
         let sum = totals.fulfilled + totals.violated + totals.open;
         assert_eq!(totals.activations, sum);
@@ -56,8 +73,8 @@ fn closing_is_right(record: Record, rules: &[Rule], taken: &[Event]) {
     let (closed, answer) = record.close();
     assert_eq!(answer, Ok(()));
     rows_are_right(&closed, rules, taken);
-    let rows: Vec<Vec<Standing>> = (1..=rules.len()).map(|rule| row(&closed, rule)).collect();
-    let expected: Vec<Vec<Standing>> = rules.iter().map(|rule| verdicts(rule, taken)).collect();
+    let rows: Vec<Row> = (1..=rules.len()).map(|rule| row(&closed, rule)).collect();
+    let expected: Vec<Row> = rules.iter().map(|rule| Row::of(rule, taken)).collect();
     assert_eq!(rows, expected);
     let texts = (write_rules(rules), write_cycle(taken));
     assert_eq!(notebook(&texts.0, &texts.1), Ok(rows));
@@ -97,9 +114,10 @@ fn decided_standings_do_not_change_again() {
         let mut record = start(&TableRecord::of(&rules)).expect("a valid table");
         for _ in 0..10 {
             let event = random_event(&mut random, &record);
-            let before = record.standings.clone();
+            let cells = |r: &Record| [&r.standings[..], &r.overall].concat();
+            let before = cells(&record);
             record = record.take(event).0;
-            for (old, new) in before.iter().zip(&record.standings) {
+            for (old, new) in before.iter().zip(&cells(&record)) {
                 if old.is_decided() {
                     assert_eq!(old, new);
                     decided += 1;

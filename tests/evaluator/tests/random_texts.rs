@@ -101,6 +101,11 @@ fn rules_cause_is_right(text: &[u8], refusal: Refusal) {
             let [a, b] = [&fields[3], &fields[4]].map(|field| field.parse::<u64>());
             assert!(b.expect("b is a number") <= a.expect("a is a number"));
         }
+        16 => {
+            let code: u64 = fields[0].parse().expect("a code");
+            let equal = fields[1] == fields[2] && code >= 15;
+            assert!((13..=16).contains(&code) && (equal || fields[6] != "-"));
+        }
         other => panic!("{other} is no refusal of a rules text"),
     }
 }
@@ -141,7 +146,7 @@ fn damaged_rules_texts() {
         *seen.entry(number).or_default() += 1;
     }
     let numbers: Vec<u8> = seen.keys().copied().collect();
-    assert_eq!(numbers, [0, 1, 2, 3, 4, 5, 6, 8, 12], "{seen:?}");
+    assert_eq!(numbers, [0, 1, 2, 3, 4, 5, 6, 8, 12, 16], "{seen:?}");
     assert!(seen.values().all(|count| *count > 40), "{seen:?}");
 }
 
@@ -221,8 +226,11 @@ fn each_kind_of_damage_has_its_refusals() {
         (Damage::DoubleLine, &[0]),
         // `-` alone becomes `-,-`, a comparison becomes two.
         (Damage::RepeatComparison, &[4, 5]),
-        (Damage::OddComparison, &[0, 3, 4, 5]),
-        (Damage::MixedComparison, &[0, 3, 4, 5]),
+        // A rule about the cycle has no correlation.
+        (Damage::OddComparison, &[0, 3, 4, 5, 16]),
+        (Damage::MixedComparison, &[0, 3, 4, 5, 16]),
+        (Damage::OverallCode, &[0, 16]),
+        (Damage::EqualActivities, &[0, 16]),
     ] {
         let found: Vec<u8> = after_damage(kind).0.into_iter().collect();
         assert_eq!(found, numbers, "{kind:?}");

@@ -4,9 +4,9 @@
 //! ranges.
 
 use evaluator::condition::reference_value;
-use evaluator::random::{random_cycle, random_rule, Random};
+use evaluator::random::{random_cycle, random_event_rule, random_overall_rule, Random};
 use evaluator::Standing::{self, Fulfilled, Open, Violated};
-use evaluator::{is_activation, standing, verdict, Comparison, Event, Operator, Rule};
+use evaluator::{fitting, is_activation, standing, verdict, Comparison, Event, Operator, Rule};
 
 const LEAST: i128 = -2_147_483_648;
 const LARGEST: i128 = 2_147_483_647;
@@ -22,9 +22,9 @@ fn looks_ahead(rule: &Rule, events: &[Event], position: usize) -> bool {
     }
 }
 
-/// Whether a time from `horizon` on lies in the activation's window.
-fn time_is_left(rule: &Rule, activation: &Event, horizon: u32) -> bool {
-    let start = i128::from(activation.time);
+/// Whether a time from `horizon` on lies in the window that runs from `start`.
+fn time_is_left(rule: &Rule, start: u32, horizon: u32) -> bool {
+    let start = i128::from(start);
     let first = (start + i128::from(rule.a)).max(i128::from(horizon));
     let last = rule.b.map_or(LARGEST_TIME, |b| start + i128::from(b) - 1);
     first <= last.min(LARGEST_TIME)
@@ -49,7 +49,7 @@ fn by_reach(rule: &Rule, events: &[Event], horizon: u32, position: usize) -> Sta
     let now = verdict(rule, events, position);
     let activation = &events[position - 1];
     let reachable = looks_ahead(rule, events, position)
-        && time_is_left(rule, activation, horizon)
+        && time_is_left(rule, activation.time, horizon)
         && rule.correlation.iter().all(|c| can_hold(c, activation));
     // With a target the verdict is final; without one an event to come may
     // bring it.
@@ -59,12 +59,57 @@ fn by_reach(rule: &Rule, events: &[Event], horizon: u32, position: usize) -> Sta
     }
 }
 
+/// The same at position 0. Without an event the window runs from the first to
+/// come, and the earliest it can be leaves the most time.
+fn overall_by_reach(rule: &Rule, events: &[Event], horizon: u32) -> Standing {
+    let start = events.first().map_or(horizon, |first| first.time);
+    let reachable = time_is_left(rule, start, horizon)
+        && rule
+            .activation_condition
+            .iter()
+            .all(|c| can_hold(c, &Event::new(0, 1)));
+    let activities: Vec<u8> = fitting(rule, events)
+        .iter()
+        .map(|j| events[j - 1].activity)
+        .collect();
+    // An event to come changes nothing more once there is one that fits, under 16
+    // once there is one of each activity.
+    let settled = match rule.code {
+        16 => activities.contains(&rule.activation) && activities.contains(&rule.target),
+        _ => !activities.is_empty(),
+    };
+    match reachable && !settled {
+        true => Open,
+        false => verdict(rule, events, 0),
+    }
+}
+
+#[test]
+fn search_and_direct_account_agree_at_position_0() {
+    let mut random = Random::new(13);
+    let mut counts = [[0; 2]; 2];
+    for _ in 0..12_000 {
+        let rule = random_overall_rule(&mut random);
+        let length = random.below(7);
+        let events = random_cycle(&mut random, std::slice::from_ref(&rule), length);
+        let last = events.last().map_or(0, |event| event.time);
+        let later = random.pick(&[0, 0, 1, rule.a, rule.b.unwrap_or(2), u32::MAX]);
+        let horizon = last.saturating_add(later);
+        let expected = overall_by_reach(&rule, &events, horizon);
+        let found = standing(&rule, &events, horizon, 0);
+        assert_eq!(found, expected, "{rule:?} {events:?} {horizon}");
+        counts[usize::from(length == 0)][usize::from(found == Open)] += 1;
+    }
+    let least = counts.iter().flatten().min().expect("four counts");
+    assert!(*least > 300, "{counts:?}");
+}
+
 #[test]
 fn search_and_direct_account_agree() {
     let mut random = Random::new(12);
     let mut counts = [0; 2];
     for _ in 0..20_000 {
-        let rule = random_rule(&mut random);
+        let rule = random_event_rule(&mut random);
         let length = 1 + random.below(6);
         let events = random_cycle(&mut random, std::slice::from_ref(&rule), length);
         let last = events[length - 1].time;

@@ -96,11 +96,12 @@ fn a_table_has_0_to_16_rules() {
     }
 }
 
+/// The codes 13 to 16 also ask for other standings.
 #[test]
-fn a_rule_has_a_code_1_to_12_and_activities_1_to_64() {
+fn a_rule_has_a_code_1_to_16_and_activities_1_to_64() {
     let code = |x| table_is_outside(|rule| rule.code = x);
     let expected = [true, false, false, true, true];
-    assert_eq!([0, 1, 12, 13, 255].map(code), expected);
+    assert_eq!([0, 1, 12, 17, 255].map(code), expected);
     let activation = |x| table_is_outside(|rule| rule.activation = x);
     assert_eq!([0, 1, 64, 65, 255].map(activation), expected);
     let target = |x| table_is_outside(|rule| rule.target = x);

@@ -158,7 +158,7 @@ fn a_return_is_a_byte_of_its_field() {
 #[test]
 fn codes_and_activities_have_their_ranges() {
     let thousands = "9".repeat(5000);
-    for content in ["0", "13", "255", "256", "257", "4294967297", &thousands] {
+    for content in ["0", "17", "255", "256", "257", "4294967297", &thousands] {
         assert_eq!(refused_field(1, content), 3, "{content}");
     }
     for field in [2, 3] {
@@ -166,7 +166,7 @@ fn codes_and_activities_have_their_ranges() {
             assert_eq!(refused_field(field, content), 3, "{content}");
         }
     }
-    for (code, activation, target) in [(1, 64, 1), (12, 1, 64), (9, 10, 60)] {
+    for (code, activation, target) in [(1, 64, 1), (12, 1, 64), (9, 10, 60), (16, 2, 1)] {
         let [c, x, y] = [code, activation, target].map(|n: u8| n.to_string());
         let text = line(&[(1, &c), (2, &x), (3, &y)]);
         let expected = Rule::new(code, activation, target, 0, Some(500));
@@ -234,7 +234,7 @@ fn the_last_line_ends_with_lf() {
 #[test]
 fn the_first_line_refused_ends_the_reading() {
     let bad = line(&[(1, "x")]);
-    let far = line(&[(1, "13")]);
+    let far = line(&[(1, "17")]);
     assert_eq!(refused(format!("{GOOD_LINE}{bad}{far}")), (2, 2));
     assert_eq!(refused(format!("{GOOD_LINE}{GOOD_LINE}{far}{bad}")), (3, 3));
     // An earlier line comes before a last line without LF and before a 17th.
@@ -257,10 +257,12 @@ fn every_refusal_of_the_17th_line_precedes_8() {
     let head = GOOD_LINE.repeat(16);
     for (changes, number) in [
         (&[(1, "x")][..], 2),
-        (&[(1, "13")], 3),
+        (&[(1, "17")], 3),
         (&[(6, "x")], 4),
         (&[(7, "1=0,1=0")], 5),
         (&[(4, "500")], 6),
+        (&[(1, "15"), (3, "1")], 16),
+        (&[(1, "13"), (7, "1=0")], 16),
         (&[], 8),
     ] {
         let text = head.clone() + &line(changes);
@@ -292,6 +294,65 @@ fn fields_are_judged_one_by_one() {
     // 12 precedes 1, and 1 precedes the fields.
     assert_eq!(refused("x\tx"), (12, 1));
     assert_eq!(refused("x\tx\n"), (1, 1));
+}
+
+/// A line of an exclusive choice, or of another code, with some fields replaced.
+fn overall_line(code: &str, changes: &[(usize, &str)]) -> String {
+    let changes = [&[(1, code)][..], changes].concat();
+    line(&changes)
+}
+
+/// "16, equal activities under 15 or 16, or a correlation under 13 to 16"
+#[test]
+fn rules_about_the_cycle_fit_their_template() {
+    for (code, number) in [(13, 13), (14, 14), (15, 15), (16, 16)] {
+        let code = code.to_string();
+        let rule = only_rule(overall_line(&code, &[(6, "1g5")]));
+        let condition = vec![Comparison::with_constant(1, GreaterOrEqual, 5)];
+        let expected = Rule::new(number, 1, 2, 0, Some(500)).with_activation_condition(condition);
+        assert_eq!(rule, expected);
+        for correlation in ["1=0", "2g@1:0", "1=0,2=0"] {
+            let text = overall_line(&code, &[(7, correlation)]);
+            assert_eq!(refused(text), (16, 1), "{code} {correlation}");
+        }
+        let equal = overall_line(&code, &[(2, "7"), (3, "7")]);
+        match number {
+            13 | 14 => assert_eq!(only_rule(equal), Rule::new(number, 7, 7, 0, Some(500))),
+            _ => assert_eq!(refused(equal), (16, 1), "{code}"),
+        }
+    }
+    // The other templates may have both.
+    for code in ["1", "12"] {
+        let rule = only_rule(overall_line(code, &[(3, "1"), (7, "1=0")]));
+        assert_eq!((rule.target, rule.correlation.len()), (1, 1));
+    }
+}
+
+/// "it follows 6": the fields and the window come before it, and a later line
+/// after it.
+#[test]
+fn a_misfit_follows_the_fields_and_the_window() {
+    for (changes, number) in [
+        (&[(3, "x")][..], 2),
+        (&[(3, "65")], 3),
+        (&[(6, "1=@1:0")], 4),
+        (&[(7, "x")], 4),
+        (&[(7, "1=2147483648")], 3),
+        (&[(7, "1=0,1=0")], 5),
+        (&[(4, "500")], 6),
+        (&[(4, "500"), (7, "1=0")], 6),
+        (&[], 16),
+    ] {
+        let changes = [&[(2, "2")][..], changes].concat();
+        let text = overall_line("16", &changes);
+        assert_eq!(refused(&text), (number, 1), "{changes:?}");
+        let second = format!("{GOOD_LINE}{text}x");
+        assert_eq!(refused(second), (number, 2), "{changes:?}");
+    }
+    // 12 and 1 come before all of them.
+    let unended = overall_line("16", &[(2, "2")]);
+    assert_eq!(refused(unended.trim_end()), (12, 1));
+    assert_eq!(refused("16\t2\t2\t0\t-\t-\n"), (1, 1));
 }
 
 #[test]

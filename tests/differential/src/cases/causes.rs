@@ -1,7 +1,8 @@
-//! Each cause of 11 alone, and the same values where they are no cause.
+//! Each cause of 11 alone, and the same values where they are no cause. Those of
+//! rules about the cycle have a run of their own.
 
 use evaluator::Operator::{Equal, Less};
-use evaluator::Standing::{Fulfilled, Idle, Open, Violated};
+use evaluator::Standing::{self, Fulfilled, Idle, Open, Violated};
 use evaluator::{grown, place, Comparison, ConditionSlot, Event, Record, Rule, RuleSlot};
 
 /// A run with a name for what is wrong in it, or beside the limits.
@@ -58,6 +59,11 @@ impl Changed {
 
 /// Every cause of 11, alone in a run.
 pub fn causes(closed: bool) -> Vec<Named> {
+    [causes_of_events(closed), overall_causes(closed)].concat()
+}
+
+/// Those of rules 1 to 12.
+fn causes_of_events(closed: bool) -> Vec<Named> {
     let base = base(closed);
     let runs = Vec::new();
     let mut changed = Changed { base, runs };
@@ -88,7 +94,7 @@ fn count_causes(changed: &mut Changed) {
 }
 
 fn rule_causes(changed: &mut Changed, slot: usize) {
-    for code in [0, 13, 255] {
+    for code in [0, 17, 255] {
         changed.add_rule(&format!("code {code}"), slot, |rule| rule.code = code);
     }
     for activity in [0, 65, 255] {
@@ -188,6 +194,11 @@ fn standing_causes(changed: &mut Changed) {
 /// Values at the limits, and values outside of them where nothing reads them.
 /// None of these is a cause of 11.
 pub fn allowed(closed: bool) -> Vec<Named> {
+    [allowed_of_events(closed), overall_allowed(closed)].concat()
+}
+
+/// Those of rules 1 to 12.
+fn allowed_of_events(closed: bool) -> Vec<Named> {
     let base = base(closed);
     let runs = Vec::new();
     let mut changed = Changed { base, runs };
@@ -251,4 +262,129 @@ fn allowed_in_used_slots(changed: &mut Changed) {
     changed.add("the last time".to_string(), |run| {
         run.events[2].time = u32::MAX
     });
+}
+
+/// The rules 13 to 16 of the activities 1 and 2, a response, and three events. If it
+/// is not closed, 15 alone of the first four is decided.
+pub fn overall_base(closed: bool) -> Record {
+    let rules = [13, 14, 15, 16, 2].map(|code| Rule::new(code, 1, 2, 0, Some(500)));
+    let events = [Event::new(5, 9), Event::new(6, 2), Event::new(8, 9)];
+    let run = grown(&rules, &events);
+    match closed {
+        true => run.close().0,
+        false => run,
+    }
+}
+
+/// The number of its rules 13 to 16, which are the first ones.
+const OVERALL_RULES: usize = 4;
+
+/// Every cause of 11 that rules about the cycle have, alone in a run.
+pub fn overall_causes(closed: bool) -> Vec<Named> {
+    let base = overall_base(closed);
+    let runs = Vec::new();
+    let mut changed = Changed { base, runs };
+    for rule in 1..=OVERALL_RULES {
+        causes_at_0(&mut changed, rule);
+        causes_at_events(&mut changed, rule);
+        misfit_causes(&mut changed, rule - 1);
+    }
+    for code in 13..=16 {
+        // Its position 0 is idle.
+        let name = format!("code {code}");
+        changed.add_rule(&name, OVERALL_RULES, |rule| rule.code = code);
+    }
+    changed.runs
+}
+
+impl Changed {
+    fn add_at_0(&mut self, rule: usize, standing: Standing) {
+        let name = format!("{standing:?} at position 0 of rule {rule}");
+        self.add(name, |run| run.overall[rule - 1] = standing);
+    }
+}
+
+fn causes_at_0(changed: &mut Changed, rule: usize) {
+    changed.add_at_0(rule, Idle);
+    for target in [4, 255, 256, 257, 65_535] {
+        changed.add_at_0(rule, Fulfilled(target));
+        changed.add_at_0(rule, Violated(target));
+    }
+    if changed.base.closed {
+        changed.add_at_0(rule, Open);
+    }
+}
+
+fn causes_at_events(changed: &mut Changed, rule: usize) {
+    for position in [1, 2, 3, 4, 255, 256] {
+        for standing in [Open, Fulfilled(0), Violated(0), Fulfilled(3)] {
+            let name = format!("{standing:?} at position {position} of rule {rule}");
+            let at = place(rule, position);
+            changed.add(name, |run| run.standings[at] = standing);
+        }
+    }
+}
+
+/// "in a table record it is 11"
+fn misfit_causes(changed: &mut Changed, slot: usize) {
+    changed.add_rule("a correlation", slot, |rule| {
+        rule.correlation = ConditionSlot::of(&[constant(1)])
+    });
+    changed.add_rule("a correlation of four", slot, |rule| {
+        rule.correlation = ConditionSlot::of(&[1, 2, 3, 4].map(|reading| against(reading, 1)))
+    });
+    if slot >= 2 {
+        for activity in [1, 2, 64] {
+            changed.add_rule(&format!("activities {activity}"), slot, |rule| {
+                (rule.activation, rule.target) = (activity, activity)
+            });
+        }
+    }
+    changed.add_rule("code 17", slot, |rule| rule.code = 17);
+}
+
+/// Values of such a run within the limits, and any where nothing reads them. None
+/// of these is a cause of 11.
+pub fn overall_allowed(closed: bool) -> Vec<Named> {
+    let base = overall_base(closed);
+    let runs = Vec::new();
+    let mut changed = Changed { base, runs };
+    for rule in 1..=OVERALL_RULES {
+        allowed_at_0(&mut changed, rule);
+        // Under 1 to 12 position 0 is not read.
+        changed.add_rule("code 12", rule - 1, |slot| slot.code = 12);
+        changed.add_rule("a comparison past the count", rule - 1, |slot| {
+            slot.correlation.comparisons[0] = against(9, 9)
+        });
+    }
+    for rule in [5, 6, 16] {
+        for standing in [
+            Open,
+            Fulfilled(0),
+            Fulfilled(3),
+            Fulfilled(4),
+            Violated(65_535),
+        ] {
+            changed.add_at_0(rule, standing);
+        }
+    }
+    for slot in [0, 1] {
+        for activity in [1, 2, 64] {
+            changed.add_rule(&format!("activities {activity}"), slot, |rule| {
+                (rule.activation, rule.target) = (activity, activity)
+            });
+        }
+    }
+    changed.runs
+}
+
+fn allowed_at_0(changed: &mut Changed, rule: usize) {
+    let now = changed.base.overall[rule - 1];
+    let targets = [0, 1, 2, 3];
+    let decided = targets.iter().flat_map(|t| [Fulfilled(*t), Violated(*t)]);
+    let open = [Open].into_iter().filter(|_| !changed.base.closed);
+    let others: Vec<Standing> = decided.chain(open).filter(|s| *s != now).collect();
+    for standing in others {
+        changed.add_at_0(rule, standing);
+    }
 }

@@ -1,8 +1,10 @@
 //! Runs that no call grew: each call is followed by a comparison of the whole
 //! record.
 
+use crate::cases::running::ask_standing;
 use crate::script::{table_of, Case, Session};
-use evaluator::fabricate::{fabricated, fill_unused, random_event, random_record};
+use evaluator::fabricate::{fabricated, fill_unread_overall, fill_unused};
+use evaluator::fabricate::{random_event, random_record};
 use evaluator::random::{random_cycle, random_rules, Random};
 use evaluator::Standing::{Fulfilled, Idle, Open, Violated};
 use evaluator::{place, start, Event, Record, Refusal, Rule};
@@ -49,7 +51,7 @@ pub fn case(seed: u64) -> Case {
 }
 
 /// One call with arguments near the limits; any answer will do.
-fn call(session: &mut Session, random: &mut Random) {
+pub(super) fn call(session: &mut Session, random: &mut Random) {
     let rules = session.run.table.count;
     let _ = match random.below(10) {
         0..=4 => {
@@ -119,18 +121,28 @@ pub fn stale_run(random: &mut Random, rules: usize, length: usize) -> Record {
     with_any_standings(random, &rules, &events)
 }
 
-/// The run of these rules and events with any standings within the limits.
+/// The run of these rules and events with any standings within the limits. In
+/// every second run position 0 has any standing also where nothing reads it.
 pub(super) fn with_any_standings(random: &mut Random, rules: &[Rule], events: &[Event]) -> Record {
     let length = events.len();
     let mut run = start(&table_of(rules)).expect("a valid table");
     run.count = length as u64;
     run.events[..length].copy_from_slice(events);
-    for rule in 1..=rules.len() {
+    for (number, rule) in (1..).zip(rules) {
+        if rule.is_overall() {
+            let target = random.below(length + 1) as u16;
+            let standings = [Open, Open, Fulfilled(target), Violated(target)];
+            run.overall[number - 1] = random.pick(&standings);
+            continue;
+        }
         for position in 1..=length {
             let target = random.below(length + 1) as u16;
             let standings = [Idle, Idle, Open, Open, Fulfilled(target), Violated(target)];
-            run.standings[place(rule, position)] = random.pick(&standings);
+            run.standings[place(number, position)] = random.pick(&standings);
         }
+    }
+    if random.one_in(2) {
+        fill_unread_overall(random, &mut run);
     }
     run
 }
@@ -175,7 +187,7 @@ pub fn cause_case(number: u64, run: Record) -> Case {
     session.case
 }
 
-/// A record of two rules and three events beside the limits, not outside them.
+/// A record of three events beside the limits, not outside them.
 pub fn allowed_case(number: u64, run: Record) -> Case {
     let closed = run.closed;
     let first_rule = if run.table.count == 0 { 0 } else { 1 };
@@ -218,9 +230,7 @@ pub fn ask_all_numbers(session: &mut Session) {
     let positions: Vec<u64> = NUMBERS.into_iter().chain([events, events + 1]).collect();
     for rule in &rule_numbers {
         for position in &positions {
-            let known = (1..=rules).contains(rule) && (1..=events).contains(position);
-            let answer = session.standing(*rule as u32, *position as u32);
-            assert_eq!(answer.is_ok(), known);
+            ask_standing(session, *rule as u32, *position as u32);
         }
     }
     for rule in rule_numbers.iter().chain(&WIDE_NUMBERS) {

@@ -62,9 +62,19 @@ fn compare_all(session: &mut Session, random: &mut Random) {
     session.all_totals();
     let rule = random.below(session.run.table.count as usize + 2) as u32;
     let position = random.below(session.run.count as usize + 2) as u32;
+    ask_standing(session, rule, position);
+}
+
+/// Position 0 is known under 13 to 16, an event's position under every rule.
+pub(super) fn ask_standing(session: &mut Session, rule: u32, position: u32) {
     let answer = session.standing(rule, position);
-    let known = (1..=session.run.table.count).contains(&u64::from(rule))
-        && (1..=session.run.count).contains(&u64::from(position));
+    let known = match position {
+        0 => session.has_position_0(u64::from(rule)),
+        _ => {
+            (1..=session.run.table.count).contains(&u64::from(rule))
+                && u64::from(position) <= session.run.count
+        }
+    };
     assert_eq!(answer.is_ok(), known, "rule {rule}, position {position}");
 }
 

@@ -22,6 +22,32 @@ pub fn rules_case(seed: u64) -> Case {
     rules_text_case(seed, text)
 }
 
+/// Rules about the cycle that fit their template or do not, each alone and with the
+/// causes that come before 16, as a first line and as a 17th.
+pub fn misfit_texts() -> Vec<Vec<u8>> {
+    let mut texts = Vec::new();
+    for code in 12..=17 {
+        for target in [1, 2, 65] {
+            for window in ["0\t-", "5\t5", "0\t0"] {
+                for condition in ["-", "1g5", "1=@1:0", "x", "1=0,1=0"] {
+                    for correlation in ["-", "1=@1:0", "2=2147483648", "x", "3=0,3=1"] {
+                        let line =
+                            format!("{code}\t1\t{target}\t{window}\t{condition}\t{correlation}\n");
+                        texts.push(line.into_bytes());
+                    }
+                }
+            }
+        }
+    }
+    let before = "16\t1\t2\t0\t-\t-\t-\n".repeat(16).into_bytes();
+    let last = texts
+        .iter()
+        .step_by(7)
+        .map(|line| [&before[..], line].concat());
+    let last: Vec<Vec<u8>> = last.collect();
+    [texts, last].concat()
+}
+
 /// A cycle text.
 pub fn cycle_case(seed: u64) -> Case {
     let text = random_cycle(&mut Random::new(seed));

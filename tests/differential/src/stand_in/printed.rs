@@ -57,7 +57,11 @@ impl State {
     }
 
     fn leaves_out(&self, line: &Line) -> bool {
-        self.has(Mistake::LeavesOutIdleRules) && is_total(line) && line[2] == "0"
+        match self.mistake {
+            Mistake::LeavesOutIdleRules => is_total(line) && line[2] == "0",
+            Mistake::PrintsNoZero => line[1] == "0",
+            _ => false,
+        }
     }
 
     fn mistaken_line(&self, mut line: Line) -> Vec<u8> {

@@ -56,7 +56,8 @@ fn one_after(eligible: &BTreeSet<usize>, position: usize) -> Option<usize> {
 fn name(choice: Choice, run: &mut Record, before: &[Standing]) {
     let rules = run.table.rules().expect("a valid table");
     let events = &run.events[..run.count as usize];
-    for (index, rule) in rules.iter().enumerate() {
+    let judged = rules.iter().enumerate().filter(|(_, rule)| rule.code <= 12);
+    for (index, rule) in judged {
         for position in 1..=events.len() {
             let cell = place(index + 1, position);
             let kept = before.get(cell).is_some_and(|s| s.is_decided());
@@ -69,7 +70,7 @@ fn name(choice: Choice, run: &mut Record, before: &[Standing]) {
     }
 }
 
-fn with_target(standing: Standing, target: u16) -> Standing {
+pub(super) fn with_target(standing: Standing, target: u16) -> Standing {
     match standing {
         Standing::Fulfilled(_) => Standing::Fulfilled(target),
         Standing::Violated(_) => Standing::Violated(target),

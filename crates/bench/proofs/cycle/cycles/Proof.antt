@@ -19,8 +19,8 @@ taken-requires c κs = search needs
 close-requires : tie.Need-close-requires Inv-loop μ-loop
 close-requires c κs = search needs
 
-of-cells-requires : tie.Need-of-cells-requires Inv-loop μ-loop
-of-cells-requires c κs = search needs
+of-standings-requires : tie.Need-of-standings-requires Inv-loop μ-loop
+of-standings-requires c κs = search needs
 
 joined-requires : tie.Need-joined-requires Inv-loop μ-loop
 joined-requires c κs = search needs
@@ -46,7 +46,7 @@ cycles-spec =
     loop-holds
     taken-requires
     close-requires
-    of-cells-requires
+    of-standings-requires
     joined-requires
     add-i
     loop-less

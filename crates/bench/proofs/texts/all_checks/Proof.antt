@@ -22,8 +22,8 @@ cycle-of-requires c κs = search needs
 read-notebook-requires : tie.Need-read-notebook-requires Inv-loop μ-loop
 read-notebook-requires c κs = search needs
 
-of-book-requires : tie.Need-of-book-requires Inv-loop μ-loop
-of-book-requires c κs = search needs
+of-standings-requires : tie.Need-of-standings-requires Inv-loop μ-loop
+of-standings-requires c κs = search needs
 
 joined-requires : tie.Need-joined-requires Inv-loop μ-loop
 joined-requires c κs = search needs
@@ -53,7 +53,7 @@ all-checks-spec =
     part-from-requires
     cycle-of-requires
     read-notebook-requires
-    of-book-requires
+    of-standings-requires
     joined-requires
     next-at-requires
     add-k
