@@ -1,7 +1,10 @@
 // A rule bound to one activation: its references made numbers once, for every event that is then
 // tried.
 ghost use mathlib.Core.Path.{_≡_};
-ghost use Rattle.condition.specs.Bound.{testsFor, boundOf, cycleBound};
+ghost use Rattle.declare.specs.Lists.{all};
+ghost use Rattle.declare.specs.Comparisons.{passes};
+ghost use Rattle.condition.specs.Bound.{testList, testsFor, boundOf, cycleBound};
+use crate::comparison::passes;
 use crate::comparison::test_of;
 use declare::Condition;
 use declare::Event;
@@ -28,7 +31,7 @@ pub struct Bound {
 }
 
 // A condition for the activation a; the tests past the count are made too, and never tried.
-fn tests_for(a: Event, c: Condition) -> Tests
+pub fn tests_for(a: Event, c: Condition) -> Tests
     ensures { λ r. ⌜ r ≡ testsFor a c ⌝ }
 {
     let first = test_of(a, c.first);
@@ -44,12 +47,52 @@ fn tests_for(a: Event, c: Condition) -> Tests
     }
 }
 
-// The rule bound to the activation a.
+// Whether e passes every test: up to the first that does not hold.
+pub fn all_pass(tests: Tests, e: Event) -> bool
+    ensures { λ r. ⌜ r ≡ all (passes e) (testList tests) ⌝ }
+{
+    let count = tests.count;
+    if count < 1 {
+        return true;
+    }
+    if !passes(e, tests.first) {
+        return false;
+    }
+    if count < 2 {
+        return true;
+    }
+    if !passes(e, tests.second) {
+        return false;
+    }
+    if count < 3 {
+        return true;
+    }
+    if !passes(e, tests.third) {
+        return false;
+    }
+    if count < 4 {
+        return true;
+    }
+    passes(e, tests.fourth)
+}
+
+// The rule bound to the activation a. This is the hot path, so the tests are made in place: a call
+// that is shared with others would not be inlined.
 pub fn bound_of(rule: Rule, a: Event) -> Bound
     ensures { λ r. ⌜ r ≡ boundOf rule a ⌝ }
 {
     let window = rule.window;
-    let tests = tests_for(a, rule.correlation);
+    let first = test_of(a, rule.correlation.first);
+    let second = test_of(a, rule.correlation.second);
+    let third = test_of(a, rule.correlation.third);
+    let fourth = test_of(a, rule.correlation.fourth);
+    let tests = Tests {
+        count: rule.correlation.count,
+        first: first,
+        second: second,
+        third: third,
+        fourth: fourth,
+    };
     Bound {
         target: rule.target,
         time: a.time,

@@ -13,8 +13,9 @@ ghost use Rattle.declare.specs.Reachability.{canOccur};
 ghost use Rattle.judge.specs.Cells.{judged, judgedOverall};
 ghost use Rattle.judge.specs.Occurrences.{earlier, targetOccurrence};
 use crate::target::target_of;
+use condition::bound::all_pass;
 use condition::bound::cycle_bound;
-use condition::conditions::met;
+use condition::bound::tests_for;
 use condition::reachability::can_suit;
 use condition::window::between;
 use condition::window::within;
@@ -98,7 +99,7 @@ fn occurs_at(rule: Rule, activity: u8, first: u32, e: Event) -> bool
     if !within(rule.window, between(first, e.time)) {
         return false;
     }
-    met(rule.condition, e, e)
+    all_pass(tests_for(e, rule.condition), e)
 }
 
 // The first of the n events at which the activity occurs, or 0.

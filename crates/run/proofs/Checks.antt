@@ -11,7 +11,7 @@ use lib.ListN.{length, getD, take}
 use lib.Seq.{take-suc}
 use Rattle.declare.specs.declared.Event.{Event}
 use Rattle.declare.specs.declared.Table.{Table}
-use Rattle.declare.specs.Overall.{isOverall, placesOf}
+use Rattle.declare.specs.Overall.{isOverall}
 use Rattle.declare.specs.Rules.{noRule, ruleAt, isOverallRule}
 use Rattle.declare.specs.Lists.{all, allBelow}
 use Rattle.declare.specs.Events.{wellFormed, nonFallingFrom, nonFalling, lastFrom, lastTime, noEvent}
@@ -52,22 +52,15 @@ followed-again {events} {n} f h e =
 
 -- ---- rows
 
--- the cell at place j may stand there
-abbrev pub validCell : Bool → Table → ℕ → List Cell → ℕ → Bool
-validCell closed t count cells j =
-    validAt closed (placesOf (getD (t .rules) (j / 256) noRule .code) count) (j % 256 + 1) (getD cells j idleCell .standing)
-
-pub flat-standings : (closed : Bool) (t : Table) (count : ℕ) (cells : List Cell) → allBelow (validCell closed t count cells) (t .count * 256) ≡ validStandings closed t count cells
-unfolding validStandings validRow ruleAt
-flat-standings closed t count cells =
-    all-same (validCell closed t count cells) (λ j. at (j / 256) (j % 256)) (t .count * 256)
-    (λ j l.
-    let n : j / 256 + 1 - 1 ≡ j / 256 = omega arith in
-    rw (n, standing-at cells j) refl)
-    ∙ all-rows at (t .count)
+pub flat-standings : (closed : Bool) (rules count : ℕ) (cells : List Cell) → allBelow (λ j. validAt closed count (j % 256 + 1) ((getD cells j idleCell) .standing)) (rules * 256) ≡ validStandings closed rules count cells
+unfolding validStandings validRow
+flat-standings closed rules count cells =
+    all-same (λ j. validAt closed count (j % 256 + 1) ((getD cells j idleCell) .standing)) (λ j. at (j / 256) (j % 256)) (rules * 256)
+    (λ j l. ap (validAt closed count (j % 256 + 1)) (sym (standing-at cells j)))
+    ∙ all-rows at rules
   where
     at : ℕ → ℕ → Bool
-    at k p = validAt closed (placesOf (ruleAt t (k + 1) .code) count) (p + 1) (standingIn cells (k + 1) (p + 1))
+    at k p = validAt closed count (p + 1) (standingIn cells (k + 1) (p + 1))
 
 -- position 0 of rule k + 1
 pub zero-check : (t : Table) (k : ℕ) → k < t .count → isOverallRule t (k + 1) ≡ isOverall (getD (t .rules) k noRule .code)

@@ -50,7 +50,7 @@ use Rattle.run.specs.Close.{closedRun, closeOf}
 use Rattle.run.proofs.Bounds.{Valid, valid-parts}
 use Rattle.run.proofs.Horizons.{events-appended}
 use Rattle.run.proofs.Guards.{take-cases, close-cases}
-use Rattle.run.proofs.Places.{start-idle, start-zero, judged-standing, judged-past, closed-standing, closed-past, validHere, standings-each, each-standings}
+use Rattle.run.proofs.Places.{start-idle, start-zero, judged-standing, judged-past, closed-standing, closed-past, validHere, idle-anywhere, standings-each, each-standings}
 
 pub both₄ : {a b c d : Bool} → a ≡ true → b ≡ true → c ≡ true → d ≡ true → (a && b && c && d) ≡ true
 both₄ p q r s = rw (p, q, r, s)
@@ -124,14 +124,6 @@ at-valid over n i s = go (leb i n)
 pub at-idle : (over : Bool) (n i : ℕ) (s : Standing) → n < i → validAt over n i s ≡ true → isIdle s ≡ true
 unfolding validAt
 at-idle over n i s l h = rw (lt-leb i n l) at h
-
-pub idle-anywhere : (over : Bool) (n i : ℕ) (s : Standing) → isIdle s ≡ true → validAt over n i s ≡ true
-unfolding validAt
-idle-anywhere over n i s h = go (leb i n)
-  where
-    go : (t : Bool) → cond t (validStanding over n s) (isIdle s) ≡ true
-    go true = idle-valid over n s h
-    go false = h
 
 pub taken-valid : (over : Bool) (n i : ℕ) (s : Standing) → i ≤ n → validStanding over n s ≡ true → validAt over n i s ≡ true
 unfolding validAt

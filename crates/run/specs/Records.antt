@@ -11,8 +11,7 @@ use Rattle.declare.specs.declared.Standing.the-variants.{Idle, Open, Fulfilled,
 use Rattle.declare.specs.Lists.{all, allBelow}
 use Rattle.declare.specs.Limits.{mostRules, mostEvents}
 use Rattle.declare.specs.Events.{wellFormed, nonFalling}
-use Rattle.declare.specs.Overall.{placesOf}
-use Rattle.declare.specs.Rules.{ruleAt, isOverallRule, validTable}
+use Rattle.declare.specs.Rules.{isOverallRule, validTable}
 use Rattle.declare.specs.declared.Table.{Table}
 use Rattle.declare.specs.Standings.{isIdle}
 use Rattle.declare.specs.Continuations.{horizon}
@@ -78,28 +77,29 @@ unfoldable pub validRow : Bool → ℕ → List Cell → ℕ → Bool
 validRow closed count cells rule =
     allBelow (λ p. validAt closed count (p + 1) (standingIn cells rule (p + 1))) mostEvents
 
--- the rows of the rules; other rows are not read. A rule about the cycle "is idle at events (.. not
--- idle at an event is 11)"
-unfoldable pub validStandings : Bool → Table → ℕ → List Cell → Bool
-validStandings closed t count cells =
-    allBelow (λ k. validRow closed (placesOf (ruleAt t (k + 1) .code) count) cells (k + 1)) (t .count)
+-- the rows of the rules; other rows are not read
+unfoldable pub validStandings : Bool → ℕ → ℕ → List Cell → Bool
+validStandings closed rules count cells = allBelow (λ k. validRow closed count cells (k + 1)) rules
 
--- at position 0: "a record idle at 0 .. is 11"
+-- of a rule about the cycle: "a record idle at 0 or not idle at an event is 11"
 abbrev pub validZero : Bool → ℕ → Standing → Bool
 validZero closed count s = not (isIdle s) && validStanding closed count s
 
+unfoldable pub idleRow : List Cell → ℕ → Bool
+idleRow cells rule = allBelow (λ p. isIdle (standingIn cells rule (p + 1))) mostEvents
+
 -- "position 0 of other rules is .. in a record unread"
-unfoldable pub validOverall : Bool → Table → ℕ → List Cell → Bool
-validOverall closed t count overall =
-    allBelow (λ k. not (isOverallRule t (k + 1)) || validZero closed count (overallIn overall (k + 1))) (t .count)
+unfoldable pub validOverall : Bool → Table → ℕ → List Cell → List Cell → Bool
+validOverall closed t count cells overall =
+    allBelow (λ k. not (isOverallRule t (k + 1)) || (validZero closed count (overallIn overall (k + 1)) && idleRow cells (k + 1))) (t .count)
 
 -- nothing in the record is a cause of 11
 unfoldable pub validRun : Run → Bool
 validRun r =
     validTable (r .table)
     && validEvents (r .count) (r .events)
-    && validStandings (r .closed) (r .table) (r .count) (r .cells)
-    && validOverall (r .closed) (r .table) (r .count) (r .overall)
+    && validStandings (r .closed) (r .table .count) (r .count) (r .cells)
+    && validOverall (r .closed) (r .table) (r .count) (r .cells) (r .overall)
 
 -- the lengths that the types of the code give its arrays
 pub record Sized (r : Run) : Type 0 where

@@ -1,7 +1,10 @@
 // Whether a record is valid: the causes of refusal 11.
 ghost use mathlib.Core.Path.{_≡_};
 ghost use Prim.Native.Nat.{_+_, _≤_};
-ghost use Rattle.declare.specs.Limits.{mostRules};
+ghost use Rattle.declare.specs.Lists.{allBelow};
+ghost use Rattle.declare.specs.Standings.{isIdle};
+ghost use Rattle.standings.specs.Places.{places, standingFrom};
+ghost use Rattle.declare.specs.Limits.{mostRules, mostEvents};
 ghost use Rattle.run.specs.Records.{validEvents, validStanding, validAt, validStandings, validZero, validOverall, validRun};
 use crate::Run;
 use declare::EVENTS;
@@ -10,7 +13,6 @@ use declare::RULES;
 use declare::Standing;
 use declare::Table;
 use declare::codes::is_overall;
-use declare::codes::places_of;
 use declare::kind::is_idle;
 use limits::event::well_formed;
 use limits::table::valid_table;
@@ -67,21 +69,31 @@ fn valid_at(closed: bool, count: usize, p: usize, s: Standing) -> bool
     false
 }
 
-// Whether every cell of the rules' rows may stand where it does. Most are idle: those are passed
-// over.
-fn valid_standings(closed: bool, table: Table, count: usize, cells: [Cell; PLACES]) -> bool
-    requires { ⌜ table .count ≤ mostRules ⌝ }
-    ensures { λ r. ⌜ r ≡ validStandings closed table count cells ⌝ }
+// Whether every cell of the first `rules` rows may stand where it does.
+fn valid_standings(closed: bool, rules: usize, count: usize, cells: [Cell; PLACES]) -> bool
+    requires { ⌜ rules ≤ mostRules ⌝ }
+    ensures { λ r. ⌜ r ≡ validStandings closed rules count cells ⌝ }
 {
-    let end = table.count * EVENTS;
+    let end = rules * EVENTS;
     for j in 0..end {
         let c = cells[j];
         let s = c.standing;
-        if is_idle(s) {
-            continue;
+        if !valid_at(closed, count, j % EVENTS, s) {
+            return false;
         }
-        let rule = table.rules[j / EVENTS];
-        if !valid_at(closed, places_of(rule.code, count), j % EVENTS, s) {
+    }
+    true
+}
+
+// Whether a row is idle; it begins at place `first`.
+fn idle_row(cells: [Cell; PLACES], first: usize) -> bool
+    requires { ⌜ first + mostEvents ≤ places ⌝ }
+    ensures { λ r. ⌜ r ≡ allBelow (λ p. isIdle (standingFrom cells first (p + 1))) mostEvents ⌝ }
+{
+    for p in 0..EVENTS {
+        let c = cells[first + p];
+        let s = c.standing;
+        if !is_idle(s) {
             return false;
         }
     }
@@ -95,16 +107,29 @@ fn valid_zero(closed: bool, count: usize, s: Standing) -> bool
     !is_idle(s) & valid_standing(closed, count, s)
 }
 
-// Whether this holds of every such rule; position 0 of other rules is not read.
-fn valid_overall(closed: bool, table: Table, count: usize, overall: [Cell; RULES]) -> bool
+// Whether every rule about the cycle is judged there and idle at events; position 0 of other rules
+// is not read.
+fn valid_overall(
+    closed: bool,
+    table: Table,
+    count: usize,
+    cells: [Cell; PLACES],
+    overall: [Cell; RULES],
+) -> bool
     requires { ⌜ table .count ≤ mostRules ⌝ }
-    ensures { λ r. ⌜ r ≡ validOverall closed table count overall ⌝ }
+    ensures { λ r. ⌜ r ≡ validOverall closed table count cells overall ⌝ }
 {
     for k in 0..table.count {
         let rule = table.rules[k];
+        if !is_overall(rule.code) {
+            continue;
+        }
         let c = overall[k];
         let s = c.standing;
-        if is_overall(rule.code) & !valid_zero(closed, count, s) {
+        if !valid_zero(closed, count, s) {
+            return false;
+        }
+        if !idle_row(cells, k * EVENTS) {
             return false;
         }
     }
@@ -124,9 +149,9 @@ pub fn valid_run(run: Run) -> bool
     if !valid_events(run.count, events) {
         return false;
     }
-    if !valid_standings(run.closed, table, run.count, cells) {
+    if !valid_standings(run.closed, table.count, run.count, cells) {
         return false;
     }
     let overall = run.overall;
-    valid_overall(run.closed, table, run.count, overall)
+    valid_overall(run.closed, table, run.count, cells, overall)
 }
