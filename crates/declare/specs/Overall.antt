@@ -8,10 +8,6 @@ use Rattle.declare.specs.Limits.{lastTemplate, firstOverall}
 unfoldable pub isOverall : ℕ → Bool
 isOverall code = leb firstOverall code && leb code lastTemplate
 
--- of n events, those at which a rule of this code may stand other than idle
-unfoldable pub placesOf : ℕ → ℕ → ℕ
-placesOf code n = cond (isOverall code) 0 n
-
 -- of such a code
 unfoldable pub overallOf : ℕ → Overall
 overallOf code = cond (eqb code 13) Existence (cond (eqb code 14) Absence (cond (eqb code 15) Choice ExclusiveChoice))

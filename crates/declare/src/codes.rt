@@ -1,8 +1,7 @@
 // The templates about the cycle as such, codes 13 to 16.
 ghost use mathlib.Core.Path.{_≡_};
-ghost use Prim.Native.Nat.{_≤_};
 ghost use Rattle.declare.specs.Rules.{isOverallRule};
-ghost use Rattle.declare.specs.Overall.{isOverall, placesOf, overallOf, countsTarget};
+ghost use Rattle.declare.specs.Overall.{isOverall, overallOf, countsTarget};
 use crate::FIRST_OVERALL;
 use crate::LAST_TEMPLATE;
 use crate::Overall;
@@ -26,13 +25,6 @@ pub fn is_overall_rule(table: Table, k: usize) -> bool
     }
     let rule = table.rules[p];
     is_overall(rule.code)
-}
-
-// Of n events, those at which a rule of this code may stand other than idle.
-pub fn places_of(code: u8, n: usize) -> usize
-    ensures { λ r. ⌜ (r ≡ placesOf code n) × (r ≤ n) ⌝ }
-{
-    if is_overall(code) { 0 } else { n }
 }
 
 // The template of such a code.

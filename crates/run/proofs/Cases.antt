@@ -3,7 +3,7 @@ use mathlib.Core.Path.{refl}
 use Rattle.declare.specs.Lists.{all, any, firstUpTo, lastUpTo, firstPast, nearest, allBelow, countBelow, mapFrom}
 use Rattle.declare.specs.Conditions.{comparisonsOf, testsOf, met}
 use Rattle.declare.specs.Events.{inRange, isActivity, readingsInRange, wellFormed, nonFallingFrom, nonFalling, lastFrom, lastTime, eventAt, firstTime, emptySlot}
-use Rattle.declare.specs.Overall.{isOverall, placesOf, overallOf}
+use Rattle.declare.specs.Overall.{isOverall, overallOf}
 use Rattle.declare.specs.Rules.{isTemplate, noneTwice, noRule, ruleAt, isOverallRule, fitsTemplate, validCondition, validEnd, validWindow, validHead, validRule, rulesOf, validTable}
 use Rattle.declare.specs.Suits.{occurs, isActivation, activationAt, beforeEnd, within, correlates, suits}
 use Rattle.declare.specs.Templates.{templates, templateOf, inReach}
@@ -24,7 +24,7 @@ use Rattle.run.specs.Queries.{isPosition}
 use Rattle.run.specs.Cases.{codes, records, starts, zeros, judgements, closings, finished, numbers, positions, counted, Checked}
 
 pub checked : Checked
-unfolding codes records starts zeros judgements closings finished numbers positions counted firstTime emptySlot isOverall placesOf overallOf isOverallRule fitsTemplate occurs occursAt fitsAt seen formulaOf decision canOccur isSettled overallIn zeroIn withZero overallCell changedOverall judgedOverall idleRow validOverall closedOverall isPosition all any firstUpTo lastUpTo firstPast nearest allBelow countBelow mapFrom comparisonsOf testsOf met inRange isActivity readingsInRange wellFormed nonFallingFrom nonFalling lastFrom lastTime eventAt isTemplate noneTwice noRule validCondition validEnd validWindow validHead validRule rulesOf validTable isActivation activationAt beforeEnd within correlates suits templates templateOf inReach eligible target decided horizon candidates meets someMeets satisfiable soonest hasRoom canCome undecided standing carried closing closed standingIn inUse judged judgedAt changedCell judgedCells eventsOf ruleAt validEvents validAt validRow validStandings validRun afterCall newRun startOf emptyTable started judgedRun changed closedAt closedCells closedRun positionsOf totalsBy standingFrom padded tableOf _>>_ require verdict finishedRun
+unfolding codes records starts zeros judgements closings finished numbers positions counted firstTime emptySlot isOverall overallOf isOverallRule fitsTemplate occurs occursAt fitsAt seen formulaOf decision canOccur isSettled overallIn zeroIn withZero overallCell changedOverall judgedOverall idleRow validOverall closedOverall isPosition all any firstUpTo lastUpTo firstPast nearest allBelow countBelow mapFrom comparisonsOf testsOf met inRange isActivity readingsInRange wellFormed nonFallingFrom nonFalling lastFrom lastTime eventAt isTemplate noneTwice noRule validCondition validEnd validWindow validHead validRule rulesOf validTable isActivation activationAt beforeEnd within correlates suits templates templateOf inReach eligible target decided horizon candidates meets someMeets satisfiable soonest hasRoom canCome undecided standing carried closing closed standingIn inUse judged judgedAt changedCell judgedCells eventsOf ruleAt validEvents validAt validRow validStandings validRun afterCall newRun startOf emptyTable started judgedRun changed closedAt closedCells closedRun positionsOf totalsBy standingFrom padded tableOf _>>_ require verdict finishedRun
 checked =
     record {
       of-codes = refl;

@@ -13,7 +13,7 @@ use Rattle.declare.specs.declared.Table.{Table}
 use Rattle.declare.specs.declared.Standing.{Standing}
 use Rattle.declare.specs.declared.Standing.the-variants.{Idle}
 use Rattle.declare.specs.Limits.{mostRules, mostEvents}
-use Rattle.declare.specs.Overall.{isOverall, placesOf}
+use Rattle.declare.specs.Overall.{isOverall}
 use Rattle.declare.specs.Rules.{ruleAt, isOverallRule}
 use Rattle.declare.specs.Reachability.{standing}
 use Rattle.declare.specs.Steps.{carried, closed}
@@ -209,12 +209,7 @@ module _ (r : Run) where
 -- s may stand at position i of a rule, of n events
 abbrev pub validHere : Bool → Rule → ℕ → ℕ → Standing → Bool
 validHere over r n zero s = not (isOverall (r .code)) || validZero over n s
-validHere over r n (suc i) s = validAt over (placesOf (r .code) n) (suc i) s
-
--- under a rule about the cycle that is: idle at an event; under any other, as at its position
-none-but-idle : (over : Bool) (i : ℕ) (s : Standing) → 1 ≤ i → validAt over 0 i s ≡ isIdle s
-unfolding validAt
-none-but-idle over i s low = rw (lt-leb i 0 (omega arith)) refl
+validHere over r n (suc i) s = cond (isOverall (r .code)) (isIdle s) (validAt over n (suc i) s)
 
 pub idle-anywhere : (over : Bool) (n i : ℕ) (s : Standing) → isIdle s ≡ true → validAt over n i s ≡ true
 unfolding validAt
@@ -262,11 +257,11 @@ module _ (over : Bool) (r : Run) where
         go false q = refl
 
     event-each : validStandings over (t .count) (r .count) (r .cells) ≡ true → (j : ℕ) → j < 256 → validHere over (ruleAt t k) (r .count) (suc j) (standingAt r k (suc j)) ≡ true
-    unfolding withZero placesOf
+    unfolding withZero
     event-each v j c = go (isOverall (ruleAt t k .code)) refl
       where
-        go : (o : Bool) → isOverall (ruleAt t k .code) ≡ o → validAt over (cond o 0 (r .count)) (suc j) (standingIn (r .cells) k (suc j)) ≡ true
-        go true q = none-but-idle over (suc j) _ (omega arith) ∙ idle-at k j (of-rule q .1) c
+        go : (o : Bool) → isOverall (ruleAt t k .code) ≡ o → cond o (isIdle (standingIn (r .cells) k (suc j))) (validAt over (r .count) (suc j) (standingIn (r .cells) k (suc j))) ≡ true
+        go true q = idle-at k j (of-rule q .1) c
         go false q = row-at v k j a b c
 
   pub standings-each : validStandings over (t .count) (r .count) (r .cells) ≡ true → validOverall over t (r .count) (r .cells) (r .overall) ≡ true → (k i : ℕ) → 1 ≤ k → k ≤ t .count → i ≤ 256 → validHere over (ruleAt t k) (r .count) i (standingAt r k i) ≡ true
@@ -275,13 +270,13 @@ module _ (over : Bool) (r : Run) where
 
   module _ (f : (k i : ℕ) → 1 ≤ k → k ≤ t .count → i ≤ 256 → validHere over (ruleAt t k) (r .count) i (standingAt r k i) ≡ true) where
     each-row : validStandings over (t .count) (r .count) (r .cells) ≡ true
-    unfolding validStandings validRow withZero placesOf
+    unfolding validStandings validRow withZero
     each-row =
         each-all (λ k. validRow over (r .count) (r .cells) (k + 1)) (t .count)
         (λ k a. each-all (λ p. validAt over (r .count) (p + 1) (standingIn (r .cells) (k + 1) (p + 1))) 256 (λ p b. at k p a b))
       where
-        go : (k p : ℕ) (o : Bool) → validAt over (cond o 0 (r .count)) (suc p) (standingIn (r .cells) k (suc p)) ≡ true → validAt over (r .count) (suc p) (standingIn (r .cells) k (suc p)) ≡ true
-        go k p true h = idle-anywhere over (r .count) (suc p) _ (sym (none-but-idle over (suc p) _ (omega arith)) ∙ h)
+        go : (k p : ℕ) (o : Bool) → cond o (isIdle (standingIn (r .cells) k (suc p))) (validAt over (r .count) (suc p) (standingIn (r .cells) k (suc p))) ≡ true → validAt over (r .count) (suc p) (standingIn (r .cells) k (suc p)) ≡ true
+        go k p true h = idle-anywhere over (r .count) (suc p) _ h
         go k p false h = h
 
         at : (k p : ℕ) → k < t .count → p < 256 → validAt over (r .count) (p + 1) (standingIn (r .cells) (k + 1) (p + 1)) ≡ true
@@ -291,12 +286,12 @@ module _ (over : Bool) (r : Run) where
 
     -- of a rule about the cycle
     row-idle : (k : ℕ) → 1 ≤ k → k ≤ t .count → isOverall (ruleAt t k .code) ≡ true → idleRow (r .cells) k ≡ true
-    unfolding idleRow withZero placesOf
+    unfolding idleRow withZero
     row-idle k a b o =
         each-all (λ p. isIdle (standingIn (r .cells) k (p + 1))) 256
         (λ p c.
         let e : p + 1 ≡ suc p = omega arith in
-        rw e (sym (none-but-idle over (suc p) _ (omega arith)) ∙ rw o at (f k (suc p) a b (omega arith))))
+        rw e (rw o at (f k (suc p) a b (omega arith))))
 
     each-zero : validOverall over t (r .count) (r .cells) (r .overall) ≡ true
     unfolding validOverall

@@ -23,7 +23,7 @@ use Rattle.declare.specs.declared.Standing.the-variants.{Idle, Open, Fulfilled,
 use Rattle.declare.specs.Lists.{all}
 use Rattle.declare.specs.Limits.{mostRules, mostEvents}
 use Rattle.declare.specs.Events.{wellFormed, nonFallingFrom, nonFalling}
-use Rattle.declare.specs.Overall.{isOverall, placesOf}
+use Rattle.declare.specs.Overall.{isOverall}
 use Rattle.declare.specs.Rules.{ruleAt, rulesOf, validTable}
 use Rattle.declare.specs.Slots.{eventSlots, tableOf, emptyTable}
 use Rattle.declare.specs.Suits.{isActivation, activationAt}
@@ -150,27 +150,23 @@ few-code code l = rw (lt-leb 13 code (omega arith)) refl
 -- ---- at any position
 
 module _ (r : Rule) where
-  places-none : isOverall (r .code) ≡ true → (n : ℕ) → placesOf (r .code) n ≡ 0
-  unfolding placesOf
-  places-none o n = rw o
-
-  places-all : isOverall (r .code) ≡ false → (n : ℕ) → placesOf (r .code) n ≡ n
-  unfolding placesOf
-  places-all o n = rw o
-
   -- a rule about the cycle is not idle at 0, and is idle at events
   pub here-judged : (over : Bool) (n : ℕ) (s : Standing) → isOverall (r .code) ≡ true → validHere over r n 0 s ≡ true → validZero over n s ≡ true
   here-judged over n s o h = rw o at h
 
   pub here-idle : (over : Bool) (n i : ℕ) (s : Standing) → isOverall (r .code) ≡ true → validHere over r n (suc i) s ≡ true → isIdle s ≡ true
-  here-idle over n i s o h = at-idle over 0 (suc i) s (omega arith) (rw (places-none o n) at h)
+  here-idle over n i s o h = rw o at h
 
   -- any other as at its position
   pub here-event : (over : Bool) (n i : ℕ) (s : Standing) → isOverall (r .code) ≡ false → validHere over r n (suc i) s ≡ validAt over n (suc i) s
-  here-event over n i s o = rw (places-all o n) refl
+  here-event over n i s o = rw o refl
 
   pub idle-here : (over : Bool) (n i : ℕ) (s : Standing) → isIdle s ≡ true → validHere over r n (suc i) s ≡ true
-  idle-here over n i s h = idle-anywhere over (placesOf (r .code) n) (suc i) s h
+  idle-here over n i s h = go (isOverall (r .code))
+    where
+      go : (o : Bool) → cond o (isIdle s) (validAt over n (suc i) s) ≡ true
+      go true = h
+      go false = idle-anywhere over n (suc i) s h
 
   pub zero-here : (over : Bool) (n : ℕ) (s : Standing) → (isOverall (r .code) ≡ true → validZero over n s ≡ true) → validHere over r n 0 s ≡ true
   zero-here over n s f = go (isOverall (r .code)) refl
