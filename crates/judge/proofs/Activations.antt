@@ -93,7 +93,7 @@ module _ (rules : List Rule) (count : ℕ) (es : List Event) (n : ℕ) {activiti
         (λ low. other-activity rule (getD es (i % mostEvents) noEvent) (λ _. rw (← shown .activity (i % mostEvents) low) (next .passed (i % mostEvents) (omega arith) (c low))))
 
     -- and at the next place of the activity the flag that the condition gives
-    pub flagged-next : (q : ℕ) (x : Bool) {v : Bool} → isOverall (getD rules (j / mostEvents) noRule .code) ≡ false → NextOf q → q < n → n ≤ mostEvents → j / mostEvents < count → v ≡ met (getD rules (j / mostEvents) noRule .condition) (getD es q noEvent) (getD es q noEvent) → v ≡ flagged rules count es n (j + (q - j % mostEvents)) x
+    pub flagged-next : (q : ℕ) (x : Bool) {v : Bool} → isOverall (getD rules (j / mostEvents) noRule .code) ≡ false → NextOf q → q < n → n ≤ mostEvents → j / mostEvents < count → v ≡ met (getD rules (j / mostEvents) noRule .condition) (getD es ((j + (q - j % mostEvents)) % mostEvents) noEvent) (getD es ((j + (q - j % mostEvents)) % mostEvents) noEvent) → v ≡ flagged rules count es n (j + (q - j % mostEvents)) x
     unfolding rule
     flagged-next q x o next low high counted e =
         let past : j % mostEvents ≤ q = next .found low .0 in
@@ -101,7 +101,7 @@ module _ (rules : List Rule) (count : ℕ) (es : List Event) (n : ℕ) {activiti
         let place : (j + (q - j % mostEvents)) % mostEvents ≡ q = omega arith in
         let own : eqb (getD es q noEvent .activity) (rule .activation) ≡ true = rw (← shown .activity q low) (next .found low .1) in
         let used : inUse count n (j + (q - j % mostEvents)) ≡ true = place-in-use count n (j + (q - j % mostEvents)) (omega arith) (omega arith) in
-        e ∙ of-activity rule (getD es q noEvent) o own
+        rw place at e ∙ of-activity rule (getD es q noEvent) o own
         ∙ sym (flagged-used rules count es n (j + (q - j % mostEvents)) x used ∙ ap₂ (λ (r k : ℕ). isActivation (getD rules r noRule) (getD es k noEvent)) line place)
 
 -- ---- once a row

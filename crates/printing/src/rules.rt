@@ -6,7 +6,7 @@ ghost use Rattle.standings.specs.Places.{places, standingFrom, withZero};
 ghost use Rattle.standings.specs.Totals.{totalsBy};
 ghost use Rattle.line.specs.Texts.{writtenLine, writtenText};
 ghost use Rattle.printing.specs.Lines.{lineFields};
-ghost use Rattle.printing.specs.Report.{eventLines, totalOf, ruleLines, reportOf};
+ghost use Rattle.printing.specs.Report.{eventLines, totalOf, reportOf};
 ghost use Rattle.buffer.specs.Puts.{Puts};
 use crate::activation::put_position;
 use buffer::numbers::put_number_field;
@@ -58,24 +58,7 @@ fn put_events(
     put_total(out, at, rule, totals)
 }
 
-// The lines of a rule: position 0 first, then its events and its totals.
-fn put_rule(
-    out: &mut [u8],
-    start: usize,
-    rule: u32,
-    zero: Standing,
-    first: usize,
-    count: usize,
-    cells: [Cell; PLACES],
-) -> usize
-    requires { ⌜ (count ≤ mostEvents) × (first + count ≤ places) ⌝ }
-    ensures { λ r. ⌜ Puts (writtenText lineFields (ruleLines rule (withZero zero (standingFrom cells first)) count)) (now (out .entry)) start (now (out .exit)) r ⌝ }
-{
-    let at = put_position(out, start, rule, 0, zero);
-    put_events(out, at, rule, zero, first, count, cells)
-}
-
-// The lines of all rules, from the buffer's front on.
+// The lines of all rules, from the buffer's front on: of each position 0 first.
 pub fn put_report(out: &mut [u8], run: Run) -> usize
     requires { ⌜ (run .table .count ≤ mostRules) × (run .count ≤ mostEvents) ⌝ }
     ensures { λ r. ⌜ Puts (reportOf run) (now (out .entry)) 0 (now (out .exit)) r ⌝ }
@@ -86,7 +69,8 @@ pub fn put_report(out: &mut [u8], run: Run) -> usize
     let mut at = 0;
     for k in 0..table.count {
         let zero = zero_in(table, overall, k + 1);
-        at = put_rule(out, at, (k + 1) as u32, zero, k * EVENTS, run.count, cells);
+        at = put_position(out, at, (k + 1) as u32, 0, zero);
+        at = put_events(out, at, (k + 1) as u32, zero, k * EVENTS, run.count, cells);
     }
     at
 }

@@ -1,13 +1,14 @@
--- Rule by rule.
+-- Rule by rule: position 0, then the events and the totals.
 use mathlib.Core.Path.{_≡_, refl, ap}
 use Prim.Native.Nat.{ℕ, _-_, _≤_}
 use native.Mathlib.Omega.{arith}
+use Rattle.standings.specs.Places.{withZero}
 use Rattle.run.specs.Records.{standingAt}
 use Rattle.line.specs.Texts.{writtenText}
 use Rattle.buffer.proofs.Puts.{puts-length, puts-as}
 use Rattle.printing.specs.Lines.{lineFields}
 use Rattle.printing.specs.Report.{linesUpTo, ruleLines, reportLines, reportOf}
-use Rattle.printing.proofs.Lines.{PutLines, put-none, put-next, row-lines}
+use Rattle.printing.proofs.Lines.{PutLines, put-none, put-next, zero-first, row-lines}
 use borrow.Author.Needs.{needs}
 use Rattle.printing.proofs.rules.put_report.Statement.{statement}
 use Rattle.printing.proofs.rules.put_report.Tie as tie
@@ -28,17 +29,26 @@ add-zero-in c = search needs
 zero-in-requires : tie.Need-zero-in-requires Inv-loop μ-loop
 zero-in-requires c κs = search needs
 
-add-put-rule : tie.Need-add-put-rule Inv-loop μ-loop
-add-put-rule c = search needs
+add-put-position : tie.Need-add-put-position Inv-loop μ-loop
+add-put-position c = search needs
 
-cast-put-rule : tie.Need-cast-put-rule Inv-loop μ-loop
-cast-put-rule c = search needs
+cast-put-position : tie.Need-cast-put-position Inv-loop μ-loop
+cast-put-position c = search needs
 
-mul-put-rule : tie.Need-mul-put-rule Inv-loop μ-loop
-mul-put-rule c = search needs
+put-position-requires : tie.Need-put-position-requires Inv-loop μ-loop
+put-position-requires c κs = search needs
 
-put-rule-requires : tie.Need-put-rule-requires Inv-loop μ-loop
-put-rule-requires c κs = search needs
+add-put-events : tie.Need-add-put-events Inv-loop μ-loop
+add-put-events c = search needs
+
+cast-put-events : tie.Need-cast-put-events Inv-loop μ-loop
+cast-put-events c = search needs
+
+mul-put-events : tie.Need-mul-put-events Inv-loop μ-loop
+mul-put-events c = search needs
+
+put-events-requires : tie.Need-put-events-requires Inv-loop μ-loop
+put-events-requires c κs = search needs
 
 add-k : tie.Need-add-k Inv-loop μ-loop
 add-k c = search needs
@@ -47,11 +57,14 @@ loop-less : tie.Need-loop-less Inv-loop μ-loop
 loop-less c = search needs
 
 loop-again : tie.Need-loop-again Inv-loop μ-loop
+unfolding withZero
 loop-again c =
-    let put = c .before .before in
-    let loop = put .before .before .before .before .loop in
+    let events = c .before .before in
+    let zero = events .before .before .before .before in
+    let loop = zero .before .before .before .before .loop in
     let same = loop .inv .2 in
-    (omega arith, loop .inv .1, same, put-next _ (loop .k) (loop .inv .3) (row-lines _ _ _ (loop .k) (rw (put .before .before .zero-in .ensures, same .0, same .1, same .2) at (put .put-rule .ensures))))
+    let put = zero-first _ _ _ (zero .put-position .ensures) (events .put-events .ensures) in
+    (omega arith, loop .inv .1, same, put-next _ (loop .k) (loop .inv .3) (row-lines _ _ _ (loop .k) (rw (zero .before .before .zero-in .ensures, same .0, same .1, same .2) at put)))
 
 same-length : tie.Need-same-length Inv-loop μ-loop
 same-length c = puts-length (c .before .loop .inv .3)
@@ -73,10 +86,13 @@ put-report-spec =
     loop-holds
     add-zero-in
     zero-in-requires
-    add-put-rule
-    cast-put-rule
-    mul-put-rule
-    put-rule-requires
+    add-put-position
+    cast-put-position
+    put-position-requires
+    add-put-events
+    cast-put-events
+    mul-put-events
+    put-events-requires
     add-k
     loop-less
     loop-again
