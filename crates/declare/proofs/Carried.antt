@@ -1,4 +1,4 @@
--- A decided standing is carried over, any other is not; and only idle is idle.
+-- A decided standing is carried over, any other is not; only idle is idle, and not decided.
 use mathlib.Core.Path.{_≡_, refl}
 use mathlib.Core.Bool.{true, false, true≢false, false≢true}
 use Rattle.declare.specs.Types.{Standing, Idle, Open, Fulfilled, Violated}
@@ -24,3 +24,9 @@ only-idle Idle h = refl
 only-idle Open h = absurd (false≢true h)
 only-idle (Fulfilled j) h = absurd (false≢true h)
 only-idle (Violated j) h = absurd (false≢true h)
+
+pub decided-active : (s : Standing) → isDecided s ≡ true → isIdle s ≡ false
+decided-active Idle d = absurd (false≢true d)
+decided-active Open d = refl
+decided-active (Fulfilled j) d = refl
+decided-active (Violated j) d = refl

@@ -28,6 +28,7 @@ use Rattle.declare.proofs.Booleans.{and₂, fails}
 use Rattle.declare.proofs.Zero.{activation-zero, decision-zero, undecided-event, decision-event}
 use Rattle.declare.proofs.Targets.{target-stays, target-next, target-cut}
 use Rattle.declare.proofs.Extension.{activation-same}
+use Rattle.declare.proofs.Carried.{decided-active}
 use Rattle.declare.proofs.Arrival.{comes, coming, coming-continues, coming-eligible}
 use Rattle.declare.proofs.Occurrences.{Turned, turning, zero-kept}
 
@@ -208,19 +209,13 @@ exactness r es h i valid well falls past high act = go (undecided r es h i) refl
 
 -- ---- what is not idle is an activation
 
-decided-active : (s : Standing) → isDecided s ≡ true → not (isIdle s) ≡ true
-decided-active Idle d = absurd (false≢true d)
-decided-active Open d = refl
-decided-active (Fulfilled j) d = refl
-decided-active (Violated j) d = refl
-
 module _ (r : Rule) (es : List Event) (i : ℕ) where
   pub verdict-active : not (isIdle (verdict r es i)) ≡ activationAt r es i
   unfolding verdict
   verdict-active = go (activationAt r es i)
     where
       go : (a : Bool) → not (isIdle (cond a (decision r es i) Idle)) ≡ a
-      go true = decided-active (decision r es i) (decision-decided r es i)
+      go true = ap not (decided-active (decision r es i) (decision-decided r es i))
       go false = refl
 
   pub standing-active : (h : ℕ) → not (isIdle (standing r es h i)) ≡ activationAt r es i
@@ -230,7 +225,7 @@ module _ (r : Rule) (es : List Event) (i : ℕ) where
       go : (a o : Bool) → not (isIdle (cond a (cond o Open (decision r es i)) Idle)) ≡ a
       go false o = refl
       go true true = refl
-      go true false = decided-active (decision r es i) (decision-decided r es i)
+      go true false = ap not (decided-active (decision r es i) (decision-decided r es i))
 
 -- ---- idle
 

@@ -15,6 +15,11 @@ use Rattle.declare.specs.Verdicts.{fitsAt, eligible, target, decided, fo
 use Rattle.declare.specs.Reachability.{canCome, canOccur, isSettled, undecided}
 use Rattle.declare.specs.Steps.{closing}
 
+-- the templates 1 to 12 are not about the cycle
+pub not-overall : (code : ℕ) → code ≤ 12 → isOverall code ≡ false
+unfolding isOverall
+not-overall code few = rw (lt-leb 13 code (omega arith)) refl
+
 module _ (r : Rule) (es : List Event) where
   pub activation-zero : activationAt r es 0 ≡ isOverall (r .code)
   unfolding activationAt
@@ -62,6 +67,5 @@ module _ (r : Rule) (es : List Event) where
 
   -- an activation under one of the templates 1 to 12 is an event
   pub active-event : (i : ℕ) → activationAt r es i ≡ true → r .code ≤ 12 → 1 ≤ i
-  unfolding isOverall
-  active-event zero act few = absurd (true≢false (sym act ∙ activation-zero ∙ rw (lt-leb 13 (r .code) (omega arith))))
+  active-event zero act few = absurd (true≢false (sym act ∙ activation-zero ∙ not-overall (r .code) few))
   active-event (suc i) act few = omega arith

@@ -13,7 +13,7 @@ use lib.ListN.{length, set, length-set, length-take}
 use Rattle.declare.specs.declared.Event.{Event}
 use Rattle.declare.specs.declared.Rule.{Rule}
 use Rattle.declare.specs.declared.Standing.{Standing}
-use Rattle.declare.specs.declared.Standing.the-variants.{Idle, Open, Fulfilled, Violated}
+use Rattle.declare.specs.declared.Standing.the-variants.{Idle, Open}
 use Rattle.declare.specs.Lists.{all}
 use Rattle.declare.specs.Limits.{mostRules, mostEvents}
 use Rattle.declare.specs.Events.{wellFormed, nonFalling, lastTime}
@@ -32,7 +32,7 @@ use Rattle.declare.proofs.Booleans.{and-right, both}
 use Rattle.declare.proofs.Extension.{activation-same}
 use Rattle.declare.proofs.Exactness.{none-added, exactness, idle-elsewhere, verdict-active}
 use Rattle.declare.proofs.Words.{judged}
-use Rattle.declare.proofs.Carried.{carried-decided, carried-other, only-idle}
+use Rattle.declare.proofs.Carried.{carried-decided, carried-other, only-idle, decided-active}
 use Rattle.declare.proofs.Steps.{admitted}
 use Rattle.declare.proofs.Tables.{rule-valid}
 use Rattle.run.specs.declared.Run.{Run}
@@ -97,13 +97,7 @@ decided-open s d e = true≢false (sym d ∙ ap isDecided e)
 names-nearest : (rule : Rule) (es : List Event) (i : ℕ) (s : Standing) → verdict rule es i ≡ s → isDecided s ≡ true → Names rule es i (targetIn s)
 names-nearest rule es i s e d =
     subst (λ (u : Standing). Names rule es i (targetIn u)) e
-    (judged rule es i (sym (verdict-active rule es i) ∙ ap (λ (u : Standing). not (isIdle u)) e ∙ decided-active s d) .names)
-  where
-    decided-active : (u : Standing) → isDecided u ≡ true → not (isIdle u) ≡ true
-    decided-active Idle q = absurd (false≢true q)
-    decided-active Open q = refl
-    decided-active (Fulfilled j) q = refl
-    decided-active (Violated j) q = refl
+    (judged rule es i (sym (verdict-active rule es i) ∙ ap (λ (u : Standing). not (isIdle u)) e ∙ ap not (decided-active s d)) .names)
 
 pub early-at : (rule : Rule) (es : List Event) (r : Run) (k i : ℕ) → validRule rule ≡ true → all wellFormed es ≡ true → nonFalling es ≡ true → i ≤ length es → standingOf r k i ≡ accepted (standing rule es (horizon es) i) → Early rule es r k i
 early-at rule es r k i v f o high answer =

@@ -4,7 +4,7 @@
 -- standing names no position past the events, a carried one none past those before, and past the
 -- count every cell stays idle; closing names position 0 or what was named.
 use mathlib.Core.Path.{_≡_, refl, sym, ap, subst, _∙_}
-use mathlib.Core.Bool.{Bool, true, false, not, cond, _&&_, _||_, true≢false, false≢true}
+use mathlib.Core.Bool.{Bool, true, false, not, cond, _||_, true≢false, false≢true}
 use mathlib.Core.List.{List, [], _∷_}
 use Prim.Native.Nat.{ℕ, zero, suc, _+_, _≤_, _<_, zero-le}
 use native.Mathlib.Omega.{arith}
@@ -12,7 +12,7 @@ use borrow.Author.Tests.{le-leb, lt-leb, leb-true, leb-false, ltb-true, not-true
 use lib.Dec.{leb, eqb}
 use lib.ListN.{length, take, set, length-set}
 use lib.Seq.{length-take-le}
-use Rattle.declare.specs.Standings.{isIdle, isDecided}
+use Rattle.declare.specs.Standings.{isIdle}
 use Rattle.declare.specs.declared.Event.{Event}
 use Rattle.declare.specs.declared.Rule.{Rule}
 use Rattle.declare.specs.declared.Table.{Table}
@@ -33,11 +33,11 @@ use Rattle.declare.specs.Continuations.{horizon}
 use Rattle.declare.specs.Reachability.{undecided, standing}
 use Rattle.declare.specs.Answers.{isAccepted, afterCall}
 use Rattle.declare.specs.Steps.{carried, closing, closed, admits}
-use Rattle.declare.proofs.Booleans.{both, both₃, and₂, and₃}
+use Rattle.declare.proofs.Booleans.{both, both₃, both₄, and₂, and₃}
 use Rattle.declare.proofs.Zero.{activation-zero, activation-event, closing-zero, closing-event}
 use Rattle.declare.proofs.Targets.{target-within}
 use Rattle.declare.proofs.Exactness.{decision-decided, standing-active, idle-elsewhere}
-use Rattle.declare.proofs.Carried.{only-idle}
+use Rattle.declare.proofs.Carried.{only-idle, decided-active}
 use Rattle.declare.proofs.Tables.{rules-within}
 use Rattle.declare.proofs.Lists.{all-parts, falls-more}
 use Rattle.declare.proofs.Answers.{required, of-of, after-cases}
@@ -51,9 +51,6 @@ use Rattle.run.proofs.Bounds.{Valid, valid-parts}
 use Rattle.run.proofs.Horizons.{events-appended}
 use Rattle.run.proofs.Guards.{take-cases, close-cases}
 use Rattle.run.proofs.Places.{start-idle, start-zero, judged-standing, judged-past, closed-standing, closed-past, validHere, idle-anywhere, standings-each, each-standings}
-
-pub both₄ : {a b c d : Bool} → a ≡ true → b ≡ true → c ≡ true → d ≡ true → (a && b && c && d) ≡ true
-both₄ p q r s = rw (p, q, r, s)
 
 -- ---- standings
 
@@ -142,11 +139,6 @@ zero-valid over n s a b = both (ap not a) b
 pub not-idle : (over : Bool) (n : ℕ) (s : Standing) → validZero over n s ≡ true → (isIdle s ≡ false) × (validStanding over n s ≡ true)
 not-idle over n s h = let p : (not (isIdle s) ≡ true) × (validStanding over n s ≡ true) = and₂ h in (not-true (isIdle s) (p .0), p .1)
 
--- a code of the twelve
-pub few-code : (code : ℕ) → code ≤ 12 → isOverall code ≡ false
-unfolding isOverall
-few-code code l = rw (lt-leb 13 code (omega arith)) refl
-
 -- ---- at any position
 
 module _ (r : Rule) where
@@ -174,12 +166,6 @@ module _ (r : Rule) where
       go : (o : Bool) → isOverall (r .code) ≡ o → (not o || validZero over n s) ≡ true
       go true q = f q
       go false q = refl
-
-  decided-active : (s : Standing) → isDecided s ≡ true → isIdle s ≡ false
-  decided-active Idle d = absurd (false≢true d)
-  decided-active Open d = refl
-  decided-active (Fulfilled j) d = refl
-  decided-active (Violated j) d = refl
 
   -- ---- closed
 

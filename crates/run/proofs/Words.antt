@@ -29,8 +29,8 @@ use Rattle.declare.specs.Standings.{isIdle, isOpen}
 use Rattle.declare.specs.Answers.{_>>_, require, afterCall}
 use Rattle.declare.specs.Steps.{carried, closed}
 use Rattle.declare.specs.Words.{NeverFall}
-use Rattle.declare.proofs.Booleans.{both₃, and₃}
-use Rattle.declare.proofs.Zero.{activation-zero, closing-zero, closing-event}
+use Rattle.declare.proofs.Booleans.{both₃, both₄, and₃}
+use Rattle.declare.proofs.Zero.{not-overall, activation-zero, closing-zero, closing-event}
 use Rattle.declare.proofs.Exactness.{verdict-is}
 use Rattle.declare.proofs.Steps.{closed-decided}
 use Rattle.declare.proofs.Words.{positive, negative, words as verdict-words}
@@ -45,7 +45,7 @@ use Rattle.run.specs.Words.{Events, MayStand, Valid, Placed, unread, Unr
 use Rattle.run.proofs.Bounds.{valid-parts}
 use Rattle.run.proofs.Places.{overall-rule, zero-other, start-idle, start-zero, start-unread, start-overall, judged-length, closed-length, judged-overall, closed-overall, judged-standing, judged-past, judged-none, judged-unread, closed-standing, closed-past, closed-none, closed-unread, validHere, standings-each, each-standings}
 use Rattle.run.proofs.Grown.{finished-length, finished-overall, finished-unread, finished-verdict, finished-rest}
-use Rattle.run.proofs.Validity.{both₄, idle-valid, at-valid, at-idle, taken-valid, past-valid, here-judged, here-idle, here-event, idle-here, zero-here, zero-valid, not-idle, few-code, started-valid, take-valid, close-valid}
+use Rattle.run.proofs.Validity.{idle-valid, at-valid, at-idle, taken-valid, past-valid, here-judged, here-idle, here-event, idle-here, zero-here, zero-valid, not-idle, started-valid, take-valid, close-valid}
 
 -- ---- the events of a record
 
@@ -253,7 +253,7 @@ module _ (r : Run) (size : Sized r) where
       where
         go : (j : ℕ) → i ≡ j → 1 ≤ i
         go zero e =
-            let none : isOverallRule (r .table) k ≡ false = overall-rule (r .table) k (u .1) ∙ few-code (codeAt r k) few in
+            let none : isOverallRule (r .table) k ≡ false = overall-rule (r .table) k (u .1) ∙ not-overall (codeAt r k) few in
             absurd (true≢false (sym (ap isOpen o) ∙ ap isOpen (ap (standingAt r k) e ∙ zero-other r k none)))
         go (suc j) e = omega arith
 
