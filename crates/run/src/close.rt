@@ -61,7 +61,7 @@ fn closed_cells(table: Table, count: usize, mut cells: [Cell; PLACES]) -> [Cell;
 impl Run {
     // The run with its open standings decided, and closed. Refused with 11 or 9, the run then as it
     // was.
-    pub fn close(mut self) -> Step
+    pub fn close(self) -> Step
         ensures { λ r. ⌜ (stepAnswer r ≡ closeOf self) × (r .run ≡ afterCall self (closeOf self)) ⌝ }
     {
         if !valid_run(self) {
@@ -76,12 +76,16 @@ impl Run {
         let overall = self.overall;
         let next = closed_cells(table, self.count, cells);
         let zero = judge_overall(false, table, events, self.count, 0, overall);
-        self.cells = next;
-        self.overall = zero;
-        self.closed = true;
         Step {
             outcome: Outcome::Done,
-            run: self,
+            run: Run {
+                closed: true,
+                table: table,
+                count: self.count,
+                events: events,
+                cells: next,
+                overall: zero,
+            },
         }
     }
 }
