@@ -10,7 +10,7 @@ use Rattle.declare.specs.declared.Table.{Table}
 use Rattle.declare.specs.Rules.{rulesOf}
 use Rattle.declare.specs.Refusals.{numberOf}
 use Rattle.run.specs.declared.Run.{Run}
-use Rattle.run.specs.Start.{started}
+use Rattle.run.specs.Start.{newRun}
 use Rattle.run.specs.Close.{finishedRun}
 use Rattle.line.specs.declared.Outcome.{Outcome as TextOutcome}
 use Rattle.line.specs.declared.Outcome.the-variants.{Accepted, Refused as TextRefused}
@@ -33,7 +33,7 @@ use Rattle.notebook.specs.Notebook.{readAs, notRead, readWith, finishedO
 -- what `refused` makes
 pub record IsRefused (t : Table) (text : Text) (cause : Refusal) (line : ℕ) (r : Notebook) : Type 0 where
   pub outcome : r .outcome ≡ Refused text cause line
-  pub run : r .run ≡ started t
+  pub run : r .run ≡ newRun t
 
 pub refuses : (t : Table) (text : Text) (cause : Refusal) (line : ℕ) (r : Notebook) → IsRefused t text cause line r → Reads (notRead text (numberOf cause) line) t r
 unfolding notebookReply outcomeReply runBeside

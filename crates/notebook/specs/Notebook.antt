@@ -9,7 +9,7 @@ use Rattle.declare.specs.declared.Table.{Table}
 use Rattle.declare.specs.Slots.{eventSlots, tableOf}
 use Rattle.declare.specs.Refusals.{numberOf}
 use Rattle.run.specs.declared.Run.{Run}
-use Rattle.run.specs.Start.{started}
+use Rattle.run.specs.Start.{newRun}
 use Rattle.run.specs.Close.{finishedRun}
 use Rattle.line.specs.Texts.{Records, All, Stop}
 use Rattle.cycle_text.specs.Cycle.{cycleTextOf}
@@ -44,11 +44,11 @@ outcomeReply run (Refused text cause line) = notRead text (numberOf cause) line
 unfoldable pub notebookReply : Notebook → Reply
 notebookReply r = outcomeReply (r .run) (r .outcome)
 
--- the run beside the answer; beside a refusal document 01 leaves it free: here the run that start
--- gives for the rules read
+-- the run beside the answer; beside a refusal document 01 leaves it free: here the new run of the
+-- rules read
 unfoldable pub runBeside : Table → Reply → Run
 runBeside t (readAs r) = r
-runBeside t (notRead text n line) = started t
+runBeside t (notRead text n line) = newRun t
 
 unfoldable pub notebookRun : List ℕ → List ℕ → Run
 notebookRun rules cycle = runBeside (tableOf (rulesIn (rulesTextOf rules))) (notebookOf rules cycle)

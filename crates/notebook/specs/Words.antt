@@ -7,7 +7,7 @@ use Rattle.declare.specs.declared.Event.{Event}
 use Rattle.declare.specs.declared.Rule.{Rule}
 use Rattle.declare.specs.Slots.{tableOf}
 use Rattle.run.specs.declared.Run.{Run}
-use Rattle.run.specs.Start.{started}
+use Rattle.run.specs.Start.{newRun}
 use Rattle.run.specs.Words.{Finishes}
 use Rattle.line.specs.Texts.{All, Stop}
 use Rattle.cycle_text.specs.Cycle.{cycleTextOf}
@@ -24,7 +24,7 @@ pub record Words (rules cycle : List ℕ) : Type 0 where
   pub both-accepted : (rs : List Rule) (es : List Event) → rulesTextOf rules ≡ All rs →
       cycleTextOf cycle ≡ All es → (r : Run) × (notebookOf rules cycle ≡ readAs r) × Finishes (tableOf rs) es r
   -- the run beside the answer
-  pub rules-refused-run : (n line : ℕ) → rulesTextOf rules ≡ Stop n line → notebookRun rules cycle ≡ started (tableOf [])
+  pub rules-refused-run : (n line : ℕ) → rulesTextOf rules ≡ Stop n line → notebookRun rules cycle ≡ newRun (tableOf [])
   pub cycle-refused-run : (rs : List Rule) (n line : ℕ) → rulesTextOf rules ≡ All rs →
-      cycleTextOf cycle ≡ Stop n line → notebookRun rules cycle ≡ started (tableOf rs)
+      cycleTextOf cycle ≡ Stop n line → notebookRun rules cycle ≡ newRun (tableOf rs)
   pub accepted-run : (r : Run) → notebookOf rules cycle ≡ readAs r → notebookRun rules cycle ≡ r

@@ -1,6 +1,6 @@
 // The notebook: a finished cycle, read from its two texts.
 ghost use mathlib.Core.Path.{_≡_};
-ghost use Rattle.run.specs.Start.{started};
+ghost use Rattle.run.specs.Start.{newRun};
 ghost use Rattle.notebook.specs.Types.{Refused};
 ghost use Rattle.cycle_text.specs.Cycle.{cycleTextOf};
 ghost use Rattle.notebook.specs.Notebook.{readWith, notebookOf, notebookReply, notebookRun, Reads};
@@ -9,6 +9,7 @@ use declare::Refusal;
 use declare::Table;
 use rule_text::read_rules;
 use run::Run;
+use run::start::new_run;
 
 pub enum Text {
     Rules,
@@ -27,13 +28,11 @@ pub struct Notebook {
 }
 
 fn refused(table: Table, text: Text, cause: Refusal, line: usize) -> Notebook
-    ensures { λ r. ⌜ (r .outcome ≡ Refused text cause line) × (r .run ≡ started table) ⌝ }
+    ensures { λ r. ⌜ (r .outcome ≡ Refused text cause line) × (r .run ≡ newRun table) ⌝ }
 {
-    let start = Run::start(table);
-    let run = start.run;
     Notebook {
         outcome: Outcome::Refused(text, cause, line),
-        run: run,
+        run: new_run(table),
     }
 }
 

@@ -12,7 +12,7 @@ use standings::PLACES;
 use standings::totals::Totals;
 
 pub mod record; // record.rt: whether a record is valid
-mod start; // start.rt: start
+pub mod start; // start.rt: start
 mod take; // take.rt: take
 mod close; // close.rt: close
 mod finished; // finished.rt: a finished cycle, closed at once
