@@ -30,7 +30,7 @@ use Rattle.declare.proofs.Targets.{target-stays, target-next, target-cu
 use Rattle.declare.proofs.Extension.{activation-same}
 use Rattle.declare.proofs.Carried.{decided-active}
 use Rattle.declare.proofs.Arrival.{comes, coming, coming-continues, coming-eligible}
-use Rattle.declare.proofs.Occurrences.{Turned, turning, zero-kept}
+use Rattle.declare.proofs.Settled.{Turned, turning, zero-kept}
 
 pub none-added : (h : ℕ) → continuation h [] ≡ true
 unfolding continuation nonFallingFrom all

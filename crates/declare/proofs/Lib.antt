@@ -10,7 +10,9 @@ pub mod Extension
 pub mod Arrival
 pub mod Targets
 pub mod Occurrences
+pub mod Settled
 pub mod Exactness
+pub mod OverallWords
 pub mod Words
 pub mod EdgeCycles
 pub mod Answers

@@ -29,7 +29,7 @@ use Rattle.declare.proofs.Lists.{all-parts}
 use Rattle.declare.proofs.Extension.{activation-same, non-falling-parts, later-start}
 use Rattle.declare.proofs.Arrival.{continuation-parts, comes, coming, coming-continues, coming-eligible}
 use Rattle.declare.proofs.Zero.{closing-zero, closing-event, undecided-event, decision-event}
-use Rattle.declare.proofs.Occurrences.{zero-decided}
+use Rattle.declare.proofs.Settled.{zero-decided}
 use Rattle.declare.proofs.Exactness.{decision-shut, target-kept, decision-kept}
 
 -- ---- closing

@@ -28,7 +28,7 @@ use Rattle.declare.specs.Overall.{isOverall, overallOf, countsTarget}
 use Rattle.declare.specs.Refusals.{numberOf}
 use Rattle.declare.proofs.Booleans.{fails}
 use Rattle.declare.proofs.Lists.{ltb-not}
-use Rattle.declare.proofs.Words.{of-overall}
+use Rattle.declare.proofs.OverallWords.{of-overall}
 use Rattle.number.specs.declared.Fault.the-variants.{Form, Range}
 use Rattle.number.specs.declared.NaturalAnswer.the-variants.{Natural, NoNatural}
 use Rattle.number.specs.declared.IntegerAnswer.{IntegerAnswer}

@@ -11,7 +11,7 @@ use Rattle.declare.specs.declared.Standing.the-variants.{Idle}
 use Rattle.declare.specs.declared.Table.{Table}
 use Rattle.declare.specs.Limits.{mostRules}
 use Rattle.declare.specs.Rules.{isOverallRule}
-use Rattle.declare.proofs.Occurrences.{or-false}
+use Rattle.declare.proofs.Booleans.{neither}
 use Rattle.standings.specs.declared.Cell.{Cell}
 use Rattle.standings.specs.Places.{idleCell, overallIn, zeroIn}
 use borrow.Author.Needs.{needs}
@@ -41,7 +41,7 @@ returns c =
     none (a .table) (a .t2) (a .rule) full (rw (c .before .is-overall-rule .ensures, c .before .before .less-one .ensures) at (c .if1 .taken))
 
 within : (c : tie.Else1) → c .before .before .less-one .result < 16
-within c = leb-false 16 (c .before .before .less-one .result) (or-false (not (c .before .is-overall-rule .result)) (leb 16 (c .before .before .less-one .result)) (c .if1 .left) .1)
+within c = leb-false 16 (c .before .before .less-one .result) (neither (not (c .before .is-overall-rule .result)) (leb 16 (c .before .before .less-one .result)) (c .if1 .left) .1)
 
 mul-c : tie.Need-mul-c
 mul-c c = let w = within c in search needs
@@ -53,7 +53,7 @@ returns-2 : tie.Need-returns-2
 unfolding zeroIn overallIn
 returns-2 c =
     let e = c .before in
-    let of-cycle = sym (e .before .is-overall-rule .ensures) ∙ not-false _ (or-false _ _ (e .if1 .left) .0) in
+    let of-cycle = sym (e .before .is-overall-rule .ensures) ∙ not-false _ (neither _ _ (e .if1 .left) .0) in
     rw (of-cycle, e .before .before .less-one .ensures)
 
 pub zero-in-spec : {M : Type 1} → statement M

@@ -10,7 +10,7 @@ use Rattle.declare.specs.Types.{Rule, Table}
 use Rattle.declare.specs.Limits.{mostRules}
 use Rattle.declare.specs.Overall.{isOverall}
 use Rattle.declare.specs.Rules.{noComparison, noCondition, noRule, ruleAt, isOverallRule}
-use Rattle.declare.proofs.Occurrences.{or-false}
+use Rattle.declare.proofs.Booleans.{neither}
 use borrow.Author.Needs.{needs}
 use Rattle.declare.proofs.codes.is_overall_rule.Statement.{statement}
 use Rattle.declare.proofs.codes.is_overall_rule.Tie as tie
@@ -41,7 +41,7 @@ returns c =
 within : (c : tie.Else1) → (c .before .before .args .k ≤ c .before .before .args .t1 .count) × (c .before .less-one .result < 16)
 within c =
     let a = c .before .before .args in
-    let n = or-false (ltb (a .t1 .count) (a .k)) (leb 16 (c .before .less-one .result)) (c .if1 .left) in
+    let n = neither (ltb (a .t1 .count) (a .k)) (leb 16 (c .before .less-one .result)) (c .if1 .left) in
     (ltb-false (a .t1 .count) (a .k) (n .0), leb-false 16 (c .before .less-one .result) (n .1))
 
 mul-rule : tie.Need-mul-rule

@@ -1,3 +1,4 @@
+-- Past the beginning of a row the answer is no; there, what the code says.
 use borrow.Author.Needs.{needs}
 use borrow.Author.Tests.{eq-eqb, ne-eqb}
 use mathlib.Core.Path.{refl}
