@@ -18,6 +18,7 @@ use Rattle.declare.specs.declared.Standing.{Standing}
 use Rattle.declare.specs.declared.Standing.the-variants.{Open}
 use Rattle.declare.specs.Limits.{mostEvents}
 use Rattle.declare.specs.Lists.{found, firstUpTo}
+use Rattle.declare.specs.Conditions.{met}
 use Rattle.declare.specs.Events.{noEvent, eventAt, firstTime}
 use Rattle.declare.specs.Overall.{isOverall, overallOf, countsTarget, formula, settled}
 use Rattle.declare.specs.Rules.{noRule, ruleAt, isOverallRule}
@@ -55,11 +56,20 @@ module _ (r : Rule) (k n : ℕ) (events : List Event) (room : n ≤ length event
   occurring = occursAt r (take n events) k
 
   -- the event at place p
-  pub occurs-next : (p : ℕ) {first : ℕ} → p < n → first ≡ firstTime 0 (take n events) → occurring (suc p) ≡ (occurs r k (getD events p noEvent) && within (r .window) (between first (getD events p noEvent .time)))
+  occurs-next : (p : ℕ) {first : ℕ} → p < n → first ≡ firstTime 0 (take n events) → occurring (suc p) ≡ (occurs r k (getD events p noEvent) && within (r .window) (between first (getD events p noEvent .time)))
   unfolding occursAt eventAt
   occurs-next p l e =
       let z : suc p - 1 ≡ p = omega arith in
       rw (z, getD-take n events p noEvent l, e) refl
+
+  -- of another activity, and of this one
+  pub occurs-other : (p : ℕ) → p < n → eqb (getD events p noEvent .activity) k ≡ false → occurring (suc p) ≡ false
+  unfolding occurs
+  occurs-other p l other = occurs-next p l refl ∙ rw other
+
+  pub occurs-same : (p : ℕ) {first : ℕ} → p < n → first ≡ firstTime 0 (take n events) → eqb (getD events p noEvent .activity) k ≡ true → occurring (suc p) ≡ (met (r .condition) (getD events p noEvent) (getD events p noEvent) && within (r .window) (between first (getD events p noEvent .time)))
+  unfolding occurs
+  occurs-same p l e same = occurs-next p l e ∙ rw same
 
   pub occurs-here : (p : ℕ) → p < n → firstUpTo occurring p ≡ 0 → occurring (suc p) ≡ true → suc p ≡ firstUpTo occurring n
   occurs-here p l none here = sym (first-stays occurring (suc p) n p l (first-here occurring p none here))

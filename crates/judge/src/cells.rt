@@ -94,13 +94,13 @@ pub fn judge_cells(
     let mut j = 0;
     while j < end {
         let p = j % EVENTS;
-        if p < width {
-            let c = cells[j];
-            let s = c.standing;
-            if !flags[j] & is_idle(s) {
-                j += 1;
-                continue;
-            }
+        if width <= p {
+            j += EVENTS - p;
+            continue;
+        }
+        let c = cells[j];
+        let s = c.standing;
+        if flags[j] | !is_idle(s) {
             let rule = table.rules[j / EVENTS];
             let act = events[p];
             let first = j - p;
@@ -118,10 +118,8 @@ pub fn judge_cells(
                 s,
             );
             cells[j] = Cell { standing: next };
-            j += 1;
-        } else {
-            j += EVENTS - p;
         }
+        j += 1;
     }
     cells
 }

@@ -5,9 +5,10 @@ ghost use Prim.Native.Nat.{_≤_};
 ghost use lib.ListN.{take};
 ghost use Rattle.declare.specs.Limits.{mostEvents};
 ghost use Rattle.declare.specs.Lists.{firstUpTo};
+ghost use Rattle.declare.specs.Conditions.{met};
 ghost use Rattle.declare.specs.Events.{firstTime};
 ghost use Rattle.declare.specs.Overall.{isOverall, formula, settled};
-ghost use Rattle.declare.specs.Suits.{occurs, within, between};
+ghost use Rattle.declare.specs.Suits.{within, between};
 ghost use Rattle.declare.specs.Verdicts.{occursAt, fulfilledIf};
 ghost use Rattle.declare.specs.Reachability.{canOccur};
 ghost use Rattle.judge.specs.Cells.{judged, judgedOverall};
@@ -88,30 +89,29 @@ fn first_time(horizon: u32, events: [Event; EVENTS], n: usize) -> u32
     first.time
 }
 
-// Whether the event has the activity and meets the activation condition, inside the window from the
-// time `first`.
-fn occurs_at(rule: Rule, activity: u8, first: u32, e: Event) -> bool
-    ensures { λ r. ⌜ r ≡ (occurs rule activity e && within (rule .window) (between first (e .time))) ⌝ }
+// Whether the event meets the activation condition, inside the window from the time `first`.
+fn meets_inside(rule: Rule, first: u32, e: Event) -> bool
+    ensures { λ r. ⌜ r ≡ (met (rule .condition) e e && within (rule .window) (between first (e .time))) ⌝ }
 {
-    if e.activity != activity {
-        return false;
-    }
     if !within(rule.window, between(first, e.time)) {
         return false;
     }
     all_pass(tests_for(e, rule.condition), e)
 }
 
-// The first of the n events at which the activity occurs, or 0.
+// The first of the n events at which the activity occurs, or 0. Most events have another activity:
+// these are not copied.
 fn first_occurrence(rule: Rule, activity: u8, events: [Event; EVENTS], n: usize) -> usize
     requires { ⌜ n ≤ mostEvents ⌝ }
     ensures { λ r. ⌜ (r ≡ firstUpTo (occursAt rule (take n events) activity) n) × (r ≤ n) ⌝ }
 {
     let first = first_time(0, events, n);
     for p in 0..n {
-        let e = events[p];
-        if occurs_at(rule, activity, first, e) {
-            return p + 1;
+        if events[p].activity == activity {
+            let e = events[p];
+            if meets_inside(rule, first, e) {
+                return p + 1;
+            }
         }
     }
     0

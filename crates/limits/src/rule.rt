@@ -119,8 +119,10 @@ pub fn fits_template(rule: Rule) -> bool
 pub fn valid_rule(rule: Rule) -> bool
     ensures { λ r. ⌜ r ≡ validRule rule ⌝ }
 {
+    if !fits_template(rule) {
+        return false;
+    }
     valid_head(rule)
         & valid_condition(false, rule.condition)
         & valid_condition(true, rule.correlation)
-        & fits_template(rule)
 }

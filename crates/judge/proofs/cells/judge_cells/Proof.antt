@@ -1,18 +1,20 @@
 -- The places passed so far are judged; a jump to the next row passes places that are not in use.
 -- Counts past what the arrays hold mean no more than all they hold.
 use borrow.Author.Needs.{needs}
-use borrow.Author.Tests.{not-true}
-use mathlib.Core.Path.{_≡_, sym, ap₂, _∙_}
-use mathlib.Core.Bool.{true, false, not}
-use Prim.Native.Nat.{ℕ, _-_, _*_, _≤_}
+use borrow.Author.Tests.{not-false}
+use mathlib.Core.Path.{_≡_, sym, subst, ap₂, _∙_}
+use mathlib.Core.List.{List}
+use mathlib.Core.Logic.{⊎-elim}
+use Prim.Native.Nat.{ℕ, _+_, _-_, _*_, _≤_, _<_}
 use native.Mathlib.Omega.{arith}
 use lib.ListN.{length, getD, take}
 use Rattle.declare.specs.declared.Standing.{Standing}
 use Rattle.declare.specs.Limits.{mostRules, mostEvents}
 use Rattle.declare.specs.Rules.{noRule, noCondition, noComparison}
 use Rattle.declare.specs.Events.{noEvent}
-use Rattle.declare.proofs.Booleans.{and₂}
+use Rattle.declare.proofs.Booleans.{neither}
 use Rattle.declare.proofs.Sweeps.{Swept, swept-none, swept-again, swept-kept, swept-skip, swept-all}
+use Rattle.standings.specs.declared.Cell.{Cell}
 use Rattle.standings.specs.Places.{places, idleCell, changedCell, changed}
 use Rattle.standings.proofs.Places.{row-rest, rules-rest}
 use Rattle.judge.specs.Cells.{judgedAt, judgedCells}
@@ -49,8 +51,26 @@ mul-end c = search needs
 loop-holds : tie.Need-loop-holds Inv-loop μ-loop
 loop-holds c = (omega arith, swept-none _ _)
 
+sub-j : tie.Need-sub-j Inv-loop μ-loop
+sub-j c = search needs
+
+add-j : tie.Need-add-j Inv-loop μ-loop
+add-j c = search needs
+
+loop-less : tie.Need-loop-less Inv-loop μ-loop
+loop-less c = search needs
+
+-- the rest of a row
+loop-again : tie.Need-loop-again Inv-loop μ-loop
+loop-again c =
+    let at = c .before .before in
+    let l = at .loop in
+    let rows = at .before .before .before .before .before .before .min in
+    let width = at .before .before .before .before .before .min2 in
+    (omega arith, swept-skip (l .inv .1) _ (omega arith) (λ i b d x. cell-unused _ _ _ i x (row-rest (rows .result) (width .result) (l .j) i (omega arith) b d)))
+
 -- a place in use
-placed : (c : tie.Then1 Inv-loop μ-loop) → let s = c .before .before .before in
+placed : (c : tie.Else1 Inv-loop μ-loop) → let s = c .before .before .before in
     let a = s .before .before .before .before .before .before .args in
     let columns = s .before .before .before .columns-of .result in
     Placed (columns .times) (columns .activities) (columns .numbers) (s .flags-of .result) (a .t2) (s .before .before .before .before .before .min .result) (a .t3) (a .n) (s .before .before .before .before .min2 .result) (c .before .before .loop .j)
@@ -66,7 +86,7 @@ placed c =
       shows = s .before .before .before .columns-of .ensures;
       flagging = s .flags-of .ensures;
       used = c .before .loop-test .taken;
-      low = c .if1 .taken;
+      low = omega (arith, c .if1 .left);
     }
 
 mul-c : tie.Need-mul-c Inv-loop μ-loop
@@ -80,25 +100,6 @@ array-read-if2 c = search needs
 
 is-idle-requires : tie.Need-is-idle-requires Inv-loop μ-loop
 is-idle-requires c κs = search needs
-
-add-j : tie.Need-add-j Inv-loop μ-loop
-add-j c = search needs
-
-loop-less : tie.Need-loop-less Inv-loop μ-loop
-loop-less c = search needs
-
-loop-again : tie.Need-loop-again Inv-loop μ-loop
-loop-again c =
-    let here = c .before .before .before in
-    let l = here .before .before .loop in
-    let start = here .before .before .before .before .before .before .before .before .before in
-    let a = start .args in
-    let full : length (a .t6) ≡ places = search (needs, start .good .1 .1 .1 .1 .1 .0) in
-    let both : (not (getD (here .before .before .before .flags-of .result) (l .j) false) ≡ true) × (c .before .is-idle .result ≡ true) = and₂ (c .if2 .taken) in (
-      omega arith,
-      swept-kept (l .inv .1) idleCell (omega arith)
-          (idle-stays (placed here) (a .running) (a .horizon) (getD (l .cells) (l .j) idleCell) (not-true _ (both .0)) (only-idle _ (sym (c .before .is-idle .ensures) ∙ both .1))),
-    )
 
 mul-rule : tie.Need-mul-rule Inv-loop μ-loop
 mul-rule c = search needs
@@ -146,28 +147,23 @@ loop-less-2 c = search needs
 loop-again-2 : tie.Need-loop-again-2 Inv-loop μ-loop
 unfolding noRule noCondition noComparison noEvent
 loop-again-2 c =
-    let here = c .before .before .before .before .before .before .before .before .before .before .before .before in
+    let here = c .before .before .before in
     let l = here .before .before .loop in
     let start = here .before .before .before .before .before .before .before .before .before in
     let a = start .args in
     let full : length (a .t6) ≡ places = search (needs, start .good .1 .1 .1 .1 .1 .0) in
-    (omega arith, swept-again (l .inv .1) idleCell (omega arith) (judged-cell (placed here) (a .running) (a .horizon) (getD (l .cells) (l .j) idleCell) (c .judge .ensures)))
-
-sub-j : tie.Need-sub-j Inv-loop μ-loop
-sub-j c = search needs
-
-add-j-3 : tie.Need-add-j-3 Inv-loop μ-loop
-add-j-3 c = search needs
-
-loop-less-3 : tie.Need-loop-less-3 Inv-loop μ-loop
-loop-less-3 c = search needs
-
-loop-again-3 : tie.Need-loop-again-3 Inv-loop μ-loop
-loop-again-3 c = let at = c .before .before in
-    let l = at .loop in
-    let rows = at .before .before .before .before .before .before .min in
-    let width = at .before .before .before .before .before .min2 in
-    (omega arith, swept-skip (l .inv .1) _ (omega arith) (λ i b d x. cell-unused _ _ _ i x (row-rest (rows .result) (width .result) (l .j) i (omega arith) b d)))
+    let before = getD (l .cells) (l .j) idleCell in
+    let rows = here .before .before .before .before .before .before .before .before .min in
+    let low : l .j < places = omega (arith, rows .ensures) in
+    let width = here .before .before .before .before .before .before .before .min2 .result in
+    let f : ℕ → Cell → Cell = changedCell (judgedAt (a .running) (a .t2) (take (a .n) (a .t3)) (a .horizon)) (rows .result) width in (
+      omega arith,
+      ⊎-elim
+          (λ w. subst (λ (u : List Cell). Swept f (a .t6) u (l .j + 1)) (sym (w .10)) (swept-again (l .inv .1) idleCell (omega arith) (judged-cell (placed here) (a .running) (a .horizon) before (w .9 .ensures))))
+          (λ w. let none = neither _ _ (w .0 .left) in
+          subst (λ (u : List Cell). Swept f (a .t6) u (l .j + 1)) (sym (w .1)) (swept-kept (l .inv .1) idleCell (omega arith) (idle-stays (placed here) (a .running) (a .horizon) before (none .0) (only-idle _ (sym (c .before .is-idle .ensures) ∙ not-false _ (none .1))))))
+          (c .if2 .came),
+    )
 
 returns : tie.Need-returns Inv-loop μ-loop
 unfolding judgedCells changed
@@ -197,13 +193,14 @@ judge-cells-spec =
     flags-of-requires
     mul-end
     loop-holds
+    sub-j
+    add-j
+    loop-less
+    loop-again
     mul-c
     array-copy-out-c
     array-read-if2
     is-idle-requires
-    add-j
-    loop-less
-    loop-again
     mul-rule
     element-copy-out-rule
     mul-act
@@ -219,8 +216,4 @@ judge-cells-spec =
     add-j-2
     loop-less-2
     loop-again-2
-    sub-j
-    add-j-3
-    loop-less-3
-    loop-again-3
     returns)
