@@ -1,6 +1,6 @@
 -- What closing makes of one cell: an open one in use is decided without a target, any other stays.
 use mathlib.Core.Path.{_≡_, refl, sym, ap, subst, _∙_}
-use mathlib.Core.Bool.{Bool, true, false, not, cond, _&&_, _||_, true≢false, false≢true}
+use mathlib.Core.Bool.{Bool, true, false, not, cond, _||_, true≢false, false≢true}
 use mathlib.Core.List.{List}
 use Prim.Native.Nat.{ℕ, _+_, _-_, _/_, _%_, _≤_, _<_}
 use native.Mathlib.Nat.{zero-add}
@@ -31,7 +31,7 @@ use Rattle.standings.specs.declared.Cell.{Cell}
 use Rattle.standings.specs.Places.{idleCell, overallIn, overallCell, changedOverall, inUse, changedCell}
 use Rattle.judge.specs.Cells.{judged, judgedAt, judgedOverall}
 use Rattle.run.specs.declared.Run.{Run}
-use Rattle.run.specs.Records.{eventsOf, validStanding, validZero, idleRow, validOverall, validRun}
+use Rattle.run.specs.Records.{eventsOf, validStanding, validZero, validOverall, validRun}
 use Rattle.run.specs.Close.{closedAt, closedOverall}
 use Rattle.run.proofs.Bounds.{valid-parts}
 
@@ -91,8 +91,8 @@ module _ (r : Run) (v : validRun r ≡ true) where
   active k low o =
       let l : k ≤ r .table .count = leb-true k (r .table .count) (and-left (leb k (r .table .count)) (isOverall (ruleAt (r .table) k .code)) o) in
       let e : k - 1 + 1 ≡ k = omega arith in
-      let h = rw (e, o) at (all-each (λ q. not (of (q + 1)) || (validZero (r .closed) (r .count) (overallIn (r .overall) (q + 1)) && idleRow (r .cells) (q + 1))) (r .table .count) (valid-parts r v .overall) (k - 1) (omega arith)) in
-      not-true _ (and-left (not (isIdle (overallIn (r .overall) k))) (validStanding (r .closed) (r .count) (overallIn (r .overall) k)) (and-left (validZero (r .closed) (r .count) (overallIn (r .overall) k)) (idleRow (r .cells) k) h))
+      let h = rw (e, o) at (all-each (λ q. not (of (q + 1)) || validZero (r .closed) (r .count) (overallIn (r .overall) (q + 1))) (r .table .count) (valid-parts r v .overall) (k - 1) (omega arith)) in
+      not-true _ (and-left (not (isIdle (overallIn (r .overall) k))) (validStanding (r .closed) (r .count) (overallIn (r .overall) k)) h)
 
   cell-alike : (k : ℕ) → overallCell of (judgedAt false (r .table) (eventsOf r) 0) k (getD (r .overall) k idleCell) ≡ overallCell of (closedAt (r .table) (eventsOf r)) k (getD (r .overall) k idleCell)
   unfolding overallCell judgedAt judged closedAt

@@ -1,7 +1,7 @@
 -- The standings of a run by rule and position: what judging and closing make of each, and what the
 -- record check says of each. Position 0 is the cycle as such.
 use mathlib.Core.Path.{_≡_, refl, sym, ap, _∙_}
-use mathlib.Core.Bool.{Bool, true, false, not, cond, _&&_, _||_}
+use mathlib.Core.Bool.{Bool, true, false, not, cond, _||_}
 use mathlib.Core.List.{List, []}
 use Prim.Native.Nat.{ℕ, zero, suc, _+_, _-_, _≤_, _<_}
 use native.Mathlib.Omega.{arith}
@@ -18,7 +18,6 @@ use Rattle.declare.specs.Rules.{ruleAt, isOverallRule}
 use Rattle.declare.specs.Reachability.{standing}
 use Rattle.declare.specs.Steps.{carried, closed}
 use Rattle.declare.specs.Standings.{isIdle}
-use Rattle.declare.proofs.Booleans.{and₂, both}
 use Rattle.declare.proofs.Carried.{only-idle}
 use Rattle.declare.proofs.Zero.{activation-zero}
 use Rattle.declare.proofs.Lists.{all-each, each-all, replicated}
@@ -30,7 +29,7 @@ use Rattle.standings.proofs.Places.{in-use, from-one}
 use Rattle.standings.proofs.Changes.{idle-everywhere, changed-length, changed-standing, changed-past, changed-kept, overall-length, overall-changed, overall-kept}
 use Rattle.judge.specs.Cells.{judged, judgedAt, judgedCells, judgedOverall}
 use Rattle.run.specs.declared.Run.{Run}
-use Rattle.run.specs.Records.{eventsOf, horizonOf, standingAt, withStandings, validAt, validRow, validStandings, validZero, idleRow, validOverall, Sized}
+use Rattle.run.specs.Records.{eventsOf, horizonOf, standingAt, withStandings, validStanding, validAt, validRow, eventsJudged, validStandings, validZero, validOverall, Sized}
 use Rattle.run.specs.Start.{newRun}
 use Rattle.run.specs.Take.{judgedRun}
 use Rattle.run.specs.Close.{closedAt, closedCells, closedOverall, closedRun}
@@ -209,11 +208,14 @@ module _ (r : Run) where
 -- s may stand at position i of a rule, of n events
 abbrev pub validHere : Bool → Rule → ℕ → ℕ → Standing → Bool
 validHere over r n zero s = not (isOverall (r .code)) || validZero over n s
-validHere over r n (suc i) s = cond (isOverall (r .code)) (isIdle s) (validAt over n (suc i) s)
+validHere over r n (suc i) s = validAt over (eventsJudged r n) (suc i) s
 
-pub idle-anywhere : (over : Bool) (n i : ℕ) (s : Standing) → isIdle s ≡ true → validAt over n i s ≡ true
-unfolding validAt
-idle-anywhere over n i s h = rw (only-idle s h) (go (leb i n))
+-- s may stand at a position i past 0, of which those up to m are judged, of n events
+abbrev pub standsAt : Bool → ℕ → ℕ → ℕ → Standing → Bool
+standsAt over n m i s = cond (leb i m) (validStanding over n s) (isIdle s)
+
+pub idle-anywhere : (over : Bool) (n m i : ℕ) (s : Standing) → isIdle s ≡ true → standsAt over n m i s ≡ true
+idle-anywhere over n m i s h = rw (only-idle s h) (go (leb i m))
   where
     go : (b : Bool) → cond b true true ≡ true
     go true = refl
@@ -223,86 +225,53 @@ module _ (over : Bool) (r : Run) where
   abbrev t : Table
   t = r .table
 
-  -- what a rule about the cycle has to be
-  abbrev judged-idle : ℕ → Bool
-  judged-idle k = not (isOverallRule t k) || (validZero over (r .count) (overallIn (r .overall) k) && idleRow (r .cells) k)
+  -- rule k may stand so at position 0
+  abbrev zero-may : ℕ → Bool
+  zero-may k = not (isOverallRule t k) || validZero over (r .count) (overallIn (r .overall) k)
 
-  row-at : validStandings over (t .count) (r .count) (r .cells) ≡ true → (k j : ℕ) → 1 ≤ k → k ≤ t .count → j < 256 → validAt over (r .count) (suc j) (standingIn (r .cells) k (suc j)) ≡ true
-  unfolding validStandings validRow
-  row-at v k j a b c =
+  event-each : validStandings over t (r .count) (r .cells) ≡ true → (k j : ℕ) → 1 ≤ k → k ≤ t .count → j < 256 → validHere over (ruleAt t k) (r .count) (suc j) (standingAt r k (suc j)) ≡ true
+  unfolding validStandings validRow withZero
+  event-each v k j a b c =
       let e : k - 1 + 1 ≡ k = omega arith in
       let f : j + 1 ≡ suc j = omega arith in
       rw (e, f)
-      at (all-each (λ p. validAt over (r .count) (p + 1) (standingIn (r .cells) (k - 1 + 1) (p + 1))) 256 (all-each (λ q. validRow over (r .count) (r .cells) (q + 1)) (t .count) v (k - 1) (omega arith)) j c)
+      at (all-each (λ p. validAt over (eventsJudged (ruleAt t (k - 1 + 1)) (r .count)) (p + 1) (standingIn (r .cells) (k - 1 + 1) (p + 1))) 256 (all-each (λ q. validRow over (eventsJudged (ruleAt t (q + 1)) (r .count)) (r .cells) (q + 1)) (t .count) v (k - 1) (omega arith)) j c)
 
-  idle-at : (k j : ℕ) → idleRow (r .cells) k ≡ true → j < 256 → isIdle (standingIn (r .cells) k (suc j)) ≡ true
-  unfolding idleRow
-  idle-at k j h c =
-      let f : j + 1 ≡ suc j = omega arith in
-      rw f at (all-each (λ p. isIdle (standingIn (r .cells) k (p + 1))) 256 h j c)
+  zero-each : validOverall over t (r .count) (r .overall) ≡ true → (k : ℕ) → 1 ≤ k → k ≤ t .count → validHere over (ruleAt t k) (r .count) 0 (standingAt r k 0) ≡ true
+  unfolding validOverall
+  zero-each w k a b = go (isOverall (ruleAt t k .code)) refl
+    where
+      go : (o : Bool) → isOverall (ruleAt t k .code) ≡ o → (not o || validZero over (r .count) (standingAt r k 0)) ≡ true
+      go true q =
+          let e : k - 1 + 1 ≡ k = omega arith in
+          let h : zero-may k ≡ true = rw e at (all-each (λ q. zero-may (q + 1)) (t .count) w (k - 1) (omega arith)) in
+          ap (validZero over (r .count)) (zero-overall r k (overall-rule t k b ∙ q)) ∙ (rw (overall-rule t k b, q) at h)
+      go false q = refl
 
-  module _ (w : validOverall over t (r .count) (r .cells) (r .overall) ≡ true) (k : ℕ) (a : 1 ≤ k) (b : k ≤ t .count) where
-    of-rule : isOverall (ruleAt t k .code) ≡ true → (validZero over (r .count) (overallIn (r .overall) k) ≡ true) × (idleRow (r .cells) k ≡ true)
-    unfolding validOverall
-    of-rule o =
-        let e : k - 1 + 1 ≡ k = omega arith in
-        let h : judged-idle k ≡ true = rw e at (all-each (λ q. judged-idle (q + 1)) (t .count) w (k - 1) (omega arith)) in
-        and₂ (rw (overall-rule t k b, o) at h)
-
-    zero-each : validHere over (ruleAt t k) (r .count) 0 (standingAt r k 0) ≡ true
-    zero-each = go (isOverall (ruleAt t k .code)) refl
-      where
-        go : (o : Bool) → isOverall (ruleAt t k .code) ≡ o → (not o || validZero over (r .count) (standingAt r k 0)) ≡ true
-        go true q = ap (validZero over (r .count)) (zero-overall r k (overall-rule t k b ∙ q)) ∙ of-rule q .0
-        go false q = refl
-
-    event-each : validStandings over (t .count) (r .count) (r .cells) ≡ true → (j : ℕ) → j < 256 → validHere over (ruleAt t k) (r .count) (suc j) (standingAt r k (suc j)) ≡ true
-    unfolding withZero
-    event-each v j c = go (isOverall (ruleAt t k .code)) refl
-      where
-        go : (o : Bool) → isOverall (ruleAt t k .code) ≡ o → cond o (isIdle (standingIn (r .cells) k (suc j))) (validAt over (r .count) (suc j) (standingIn (r .cells) k (suc j))) ≡ true
-        go true q = idle-at k j (of-rule q .1) c
-        go false q = row-at v k j a b c
-
-  pub standings-each : validStandings over (t .count) (r .count) (r .cells) ≡ true → validOverall over t (r .count) (r .cells) (r .overall) ≡ true → (k i : ℕ) → 1 ≤ k → k ≤ t .count → i ≤ 256 → validHere over (ruleAt t k) (r .count) i (standingAt r k i) ≡ true
+  pub standings-each : validStandings over t (r .count) (r .cells) ≡ true → validOverall over t (r .count) (r .overall) ≡ true → (k i : ℕ) → 1 ≤ k → k ≤ t .count → i ≤ 256 → validHere over (ruleAt t k) (r .count) i (standingAt r k i) ≡ true
   standings-each v w k zero a b d = zero-each w k a b
-  standings-each v w k (suc i) a b d = event-each w k a b v i d
+  standings-each v w k (suc i) a b d = event-each v k i a b d
 
   module _ (f : (k i : ℕ) → 1 ≤ k → k ≤ t .count → i ≤ 256 → validHere over (ruleAt t k) (r .count) i (standingAt r k i) ≡ true) where
-    each-row : validStandings over (t .count) (r .count) (r .cells) ≡ true
+    each-row : validStandings over t (r .count) (r .cells) ≡ true
     unfolding validStandings validRow withZero
     each-row =
-        each-all (λ k. validRow over (r .count) (r .cells) (k + 1)) (t .count)
-        (λ k a. each-all (λ p. validAt over (r .count) (p + 1) (standingIn (r .cells) (k + 1) (p + 1))) 256 (λ p b. at k p a b))
-      where
-        go : (k p : ℕ) (o : Bool) → cond o (isIdle (standingIn (r .cells) k (suc p))) (validAt over (r .count) (suc p) (standingIn (r .cells) k (suc p))) ≡ true → validAt over (r .count) (suc p) (standingIn (r .cells) k (suc p)) ≡ true
-        go k p true h = idle-anywhere over (r .count) (suc p) _ h
-        go k p false h = h
-
-        at : (k p : ℕ) → k < t .count → p < 256 → validAt over (r .count) (p + 1) (standingIn (r .cells) (k + 1) (p + 1)) ≡ true
-        at k p a b =
-            let e : p + 1 ≡ suc p = omega arith in
-            rw e (go (k + 1) p (isOverall (ruleAt t (k + 1) .code)) (f (k + 1) (suc p) (omega arith) (omega arith) (omega arith)))
-
-    -- of a rule about the cycle
-    row-idle : (k : ℕ) → 1 ≤ k → k ≤ t .count → isOverall (ruleAt t k .code) ≡ true → idleRow (r .cells) k ≡ true
-    unfolding idleRow withZero
-    row-idle k a b o =
-        each-all (λ p. isIdle (standingIn (r .cells) k (p + 1))) 256
-        (λ p c.
+        each-all (λ k. validRow over (eventsJudged (ruleAt t (k + 1)) (r .count)) (r .cells) (k + 1)) (t .count)
+        (λ k a. each-all (λ p. validAt over (eventsJudged (ruleAt t (k + 1)) (r .count)) (p + 1) (standingIn (r .cells) (k + 1) (p + 1))) 256
+        (λ p b.
         let e : p + 1 ≡ suc p = omega arith in
-        rw e (rw o at (f k (suc p) a b (omega arith))))
+        rw e (f (k + 1) (suc p) (omega arith) (omega arith) (omega arith))))
 
-    each-zero : validOverall over t (r .count) (r .cells) (r .overall) ≡ true
+    each-zero : validOverall over t (r .count) (r .overall) ≡ true
     unfolding validOverall
-    each-zero = each-all (λ k. judged-idle (k + 1)) (t .count) (λ k a. go (k + 1) (omega arith) (omega arith) (isOverallRule t (k + 1)) refl)
+    each-zero = each-all (λ k. zero-may (k + 1)) (t .count) (λ k a. go (k + 1) (omega arith) (omega arith) (isOverallRule t (k + 1)) refl)
       where
-        go : (k : ℕ) → 1 ≤ k → k ≤ t .count → (o : Bool) → isOverallRule t k ≡ o → judged-idle k ≡ true
+        go : (k : ℕ) → 1 ≤ k → k ≤ t .count → (o : Bool) → isOverallRule t k ≡ o → zero-may k ≡ true
         go k low l true q =
             let o : isOverall (ruleAt t k .code) ≡ true = sym (overall-rule t k l) ∙ q in
             let z : validZero over (r .count) (standingAt r k 0) ≡ true = rw o at (f k 0 low l (omega arith)) in
-            rw q (both (ap (validZero over (r .count)) (sym (zero-overall r k q)) ∙ z) (row-idle k low l o))
+            rw q (ap (validZero over (r .count)) (sym (zero-overall r k q)) ∙ z)
         go k low l false q = rw q refl
 
-    pub each-standings : (validStandings over (t .count) (r .count) (r .cells) ≡ true) × (validOverall over t (r .count) (r .cells) (r .overall) ≡ true)
+    pub each-standings : (validStandings over t (r .count) (r .cells) ≡ true) × (validOverall over t (r .count) (r .overall) ≡ true)
     each-standings = (each-row, each-zero)

@@ -43,7 +43,7 @@ use Rattle.declare.proofs.Lists.{all-parts, falls-more}
 use Rattle.declare.proofs.Answers.{required, of-of, after-cases}
 use Rattle.declare.proofs.Steps.{admitted, closed-decided}
 use Rattle.run.specs.declared.Run.{Run}
-use Rattle.run.specs.Records.{eventsOf, horizonOf, standingAt, validEvents, validStanding, validAt, validZero, validRun, Sized}
+use Rattle.run.specs.Records.{eventsOf, horizonOf, standingAt, validEvents, validStanding, validAt, eventsJudged, validZero, validRun, Sized}
 use Rattle.run.specs.Start.{newRun, startOf, started}
 use Rattle.run.specs.Take.{appended, judgedRun, takeOf}
 use Rattle.run.specs.Close.{closedRun, closeOf}
@@ -147,18 +147,17 @@ module _ (r : Rule) where
   here-judged over n s o h = rw o at h
 
   pub here-idle : (over : Bool) (n i : ℕ) (s : Standing) → isOverall (r .code) ≡ true → validHere over r n (suc i) s ≡ true → isIdle s ≡ true
-  here-idle over n i s o h = rw o at h
+  unfolding eventsJudged
+  here-idle over n i s o h = at-idle over 0 (suc i) s (omega arith) (rw o at h)
 
   -- any other as at its position
   pub here-event : (over : Bool) (n i : ℕ) (s : Standing) → isOverall (r .code) ≡ false → validHere over r n (suc i) s ≡ validAt over n (suc i) s
+  unfolding eventsJudged
   here-event over n i s o = rw o refl
 
   pub idle-here : (over : Bool) (n i : ℕ) (s : Standing) → isIdle s ≡ true → validHere over r n (suc i) s ≡ true
-  idle-here over n i s h = go (isOverall (r .code))
-    where
-      go : (o : Bool) → cond o (isIdle s) (validAt over n (suc i) s) ≡ true
-      go true = h
-      go false = idle-anywhere over n (suc i) s h
+  unfolding validAt
+  idle-here over n i s h = idle-anywhere over (eventsJudged r n) (eventsJudged r n) (suc i) s h
 
   pub zero-here : (over : Bool) (n : ℕ) (s : Standing) → (isOverall (r .code) ≡ true → validZero over n s ≡ true) → validHere over r n 0 s ≡ true
   zero-here over n s f = go (isOverall (r .code)) refl

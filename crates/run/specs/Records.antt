@@ -2,16 +2,18 @@
 use mathlib.Core.Path.{_≡_}
 use mathlib.Core.Bool.{Bool, true, not, cond, _&&_, _||_}
 use mathlib.Core.List.{List}
-use Prim.Native.Nat.{ℕ, _+_}
+use Prim.Native.Nat.{ℕ, _+_, _<_}
 use lib.Dec.{leb}
-use lib.ListN.{length, take}
+use lib.ListN.{length, getD, take}
 use Rattle.declare.specs.declared.Event.{Event}
+use Rattle.declare.specs.declared.Rule.{Rule}
 use Rattle.declare.specs.declared.Standing.{Standing}
 use Rattle.declare.specs.declared.Standing.the-variants.{Idle, Open, Fulfilled, Violated}
 use Rattle.declare.specs.Lists.{all, allBelow}
 use Rattle.declare.specs.Limits.{mostRules, mostEvents}
 use Rattle.declare.specs.Events.{wellFormed, nonFalling}
-use Rattle.declare.specs.Rules.{isOverallRule, validTable}
+use Rattle.declare.specs.Overall.{isOverall}
+use Rattle.declare.specs.Rules.{ruleAt, isOverallRule, validTable}
 use Rattle.declare.specs.declared.Table.{Table}
 use Rattle.declare.specs.Standings.{isIdle}
 use Rattle.declare.specs.Continuations.{horizon}
@@ -77,29 +79,35 @@ unfoldable pub validRow : Bool → ℕ → List Cell → ℕ → Bool
 validRow closed count cells rule =
     allBelow (λ p. validAt closed count (p + 1) (standingIn cells rule (p + 1))) mostEvents
 
--- the rows of the rules; other rows are not read
-unfoldable pub validStandings : Bool → ℕ → ℕ → List Cell → Bool
-validStandings closed rules count cells = allBelow (λ k. validRow closed count cells (k + 1)) rules
+-- of n events those that are judged under a rule: one about the cycle "is idle at events"
+unfoldable pub eventsJudged : Rule → ℕ → ℕ
+eventsJudged r n = cond (isOverall (r .code)) 0 n
 
--- of a rule about the cycle: "a record idle at 0 or not idle at an event is 11"
+-- rule by rule
+abbrev pub EventsJudged : Table → ℕ → List ℕ → Type 0
+EventsJudged t n counts = (k : ℕ) → k < t .count → getD counts k 0 ≡ eventsJudged (ruleAt t (k + 1)) n
+
+-- the rows of the rules; other rows are not read
+unfoldable pub validStandings : Bool → Table → ℕ → List Cell → Bool
+validStandings closed t count cells =
+    allBelow (λ k. validRow closed (eventsJudged (ruleAt t (k + 1)) count) cells (k + 1)) (t .count)
+
+-- of a rule about the cycle: "a record idle at 0 .. is 11"
 abbrev pub validZero : Bool → ℕ → Standing → Bool
 validZero closed count s = not (isIdle s) && validStanding closed count s
 
-unfoldable pub idleRow : List Cell → ℕ → Bool
-idleRow cells rule = allBelow (λ p. isIdle (standingIn cells rule (p + 1))) mostEvents
-
 -- "position 0 of other rules is .. in a record unread"
-unfoldable pub validOverall : Bool → Table → ℕ → List Cell → List Cell → Bool
-validOverall closed t count cells overall =
-    allBelow (λ k. not (isOverallRule t (k + 1)) || (validZero closed count (overallIn overall (k + 1)) && idleRow cells (k + 1))) (t .count)
+unfoldable pub validOverall : Bool → Table → ℕ → List Cell → Bool
+validOverall closed t count overall =
+    allBelow (λ k. not (isOverallRule t (k + 1)) || validZero closed count (overallIn overall (k + 1))) (t .count)
 
 -- nothing in the record is a cause of 11
 unfoldable pub validRun : Run → Bool
 validRun r =
     validTable (r .table)
     && validEvents (r .count) (r .events)
-    && validStandings (r .closed) (r .table .count) (r .count) (r .cells)
-    && validOverall (r .closed) (r .table) (r .count) (r .cells) (r .overall)
+    && validStandings (r .closed) (r .table) (r .count) (r .cells)
+    && validOverall (r .closed) (r .table) (r .count) (r .overall)
 
 -- the lengths that the types of the code give its arrays
 pub record Sized (r : Run) : Type 0 where

@@ -1,11 +1,11 @@
 // Whether a record is valid: the causes of refusal 11.
 ghost use mathlib.Core.Path.{_≡_};
+ghost use mathlib.Core.Bool.{cond};
 ghost use Prim.Native.Nat.{_+_, _≤_};
-ghost use Rattle.declare.specs.Lists.{allBelow};
+ghost use lib.Dec.{leb};
+ghost use Rattle.declare.specs.Limits.{mostRules};
 ghost use Rattle.declare.specs.Standings.{isIdle};
-ghost use Rattle.standings.specs.Places.{places, standingFrom};
-ghost use Rattle.declare.specs.Limits.{mostRules, mostEvents};
-ghost use Rattle.run.specs.Records.{validEvents, validStanding, validAt, validStandings, validZero, validOverall, validRun};
+ghost use Rattle.run.specs.Records.{validEvents, validStanding, EventsJudged, validStandings, validZero, validOverall, validRun};
 use crate::Run;
 use declare::EVENTS;
 use declare::Event;
@@ -55,45 +55,46 @@ fn valid_standing(closed: bool, count: usize, s: Standing) -> bool
     }
 }
 
-// Whether s may stand at place p of a row, that is at position p + 1: idle may stand anywhere, and
-// most are.
-fn valid_at(closed: bool, count: usize, p: usize, s: Standing) -> bool
-    ensures { λ r. ⌜ r ≡ validAt closed count (p + 1) s ⌝ }
+// Whether s may stand at place p of a row, that is at position p + 1, if so many of the events are
+// judged: idle may stand anywhere, and most are.
+fn valid_at(closed: bool, count: usize, judged: usize, p: usize, s: Standing) -> bool
+    ensures { λ r. ⌜ r ≡ cond (leb (p + 1) judged) (validStanding closed count s) (isIdle s) ⌝ }
 {
     if is_idle(s) {
         return true;
     }
-    if p < count {
+    if p < judged {
         return valid_standing(closed, count, s);
     }
     false
 }
 
-// Whether every cell of the first `rules` rows may stand where it does.
-fn valid_standings(closed: bool, rules: usize, count: usize, cells: [Cell; PLACES]) -> bool
-    requires { ⌜ rules ≤ mostRules ⌝ }
-    ensures { λ r. ⌜ r ≡ validStandings closed rules count cells ⌝ }
+// Under each rule, how many of the events are judged.
+fn events_judged(table: Table, count: usize) -> [usize; RULES]
+    requires { ⌜ table .count ≤ mostRules ⌝ }
+    ensures { λ r. ⌜ EventsJudged table count r ⌝ }
 {
-    let end = rules * EVENTS;
+    let mut counts = [count; RULES];
+    for k in 0..table.count {
+        let rule = table.rules[k];
+        if is_overall(rule.code) {
+            counts[k] = 0;
+        }
+    }
+    counts
+}
+
+// Whether every cell of the rules' rows may stand where it does.
+fn valid_standings(closed: bool, table: Table, count: usize, cells: [Cell; PLACES]) -> bool
+    requires { ⌜ table .count ≤ mostRules ⌝ }
+    ensures { λ r. ⌜ r ≡ validStandings closed table count cells ⌝ }
+{
+    let counts = events_judged(table, count);
+    let end = table.count * EVENTS;
     for j in 0..end {
         let c = cells[j];
         let s = c.standing;
-        if !valid_at(closed, count, j % EVENTS, s) {
-            return false;
-        }
-    }
-    true
-}
-
-// Whether a row is idle; it begins at place `first`.
-fn idle_row(cells: [Cell; PLACES], first: usize) -> bool
-    requires { ⌜ first + mostEvents ≤ places ⌝ }
-    ensures { λ r. ⌜ r ≡ allBelow (λ p. isIdle (standingFrom cells first (p + 1))) mostEvents ⌝ }
-{
-    for p in 0..EVENTS {
-        let c = cells[first + p];
-        let s = c.standing;
-        if !is_idle(s) {
+        if !valid_at(closed, count, counts[j / EVENTS], j % EVENTS, s) {
             return false;
         }
     }
@@ -107,17 +108,10 @@ fn valid_zero(closed: bool, count: usize, s: Standing) -> bool
     !is_idle(s) & valid_standing(closed, count, s)
 }
 
-// Whether every rule about the cycle is judged there and idle at events; position 0 of other rules
-// is not read.
-fn valid_overall(
-    closed: bool,
-    table: Table,
-    count: usize,
-    cells: [Cell; PLACES],
-    overall: [Cell; RULES],
-) -> bool
+// Whether every rule about the cycle is judged there; position 0 of other rules is not read.
+fn valid_overall(closed: bool, table: Table, count: usize, overall: [Cell; RULES]) -> bool
     requires { ⌜ table .count ≤ mostRules ⌝ }
-    ensures { λ r. ⌜ r ≡ validOverall closed table count cells overall ⌝ }
+    ensures { λ r. ⌜ r ≡ validOverall closed table count overall ⌝ }
 {
     for k in 0..table.count {
         let rule = table.rules[k];
@@ -127,9 +121,6 @@ fn valid_overall(
         let c = overall[k];
         let s = c.standing;
         if !valid_zero(closed, count, s) {
-            return false;
-        }
-        if !idle_row(cells, k * EVENTS) {
             return false;
         }
     }
@@ -149,9 +140,9 @@ pub fn valid_run(run: Run) -> bool
     if !valid_events(run.count, events) {
         return false;
     }
-    if !valid_standings(run.closed, table.count, run.count, cells) {
+    if !valid_standings(run.closed, table, run.count, cells) {
         return false;
     }
     let overall = run.overall;
-    valid_overall(run.closed, table, run.count, cells, overall)
+    valid_overall(run.closed, table, run.count, overall)
 }

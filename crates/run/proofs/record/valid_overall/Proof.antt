@@ -1,9 +1,8 @@
--- No rule that was passed is invalid: another rule is not read, one about the cycle was looked at, at
--- position 0 and along its row.
+-- No rule that was passed is invalid: one about the cycle was looked at, any other is not read.
 use mathlib.Core.Path.{_≡_, refl, sym, ap, _∙_}
-use mathlib.Core.Bool.{Bool, true, false, not, _&&_, _||_}
+use mathlib.Core.Bool.{Bool, true, false, not, _||_}
 use mathlib.Core.List.{List}
-use Prim.Native.Nat.{ℕ, _≤_, _<_, _-_, _+_, _*_}
+use Prim.Native.Nat.{ℕ, _≤_, _<_, _-_, _+_}
 use native.Mathlib.Omega.{arith}
 use borrow.Author.Tests.{not-true, not-false}
 use lib.ListN.{getD}
@@ -11,55 +10,41 @@ use Rattle.declare.specs.declared.Table.{Table}
 use Rattle.declare.specs.Lists.{allBelow}
 use Rattle.declare.specs.Overall.{isOverall}
 use Rattle.declare.specs.Rules.{noComparison, noCondition, noRule, isOverallRule}
-use Rattle.declare.specs.Standings.{isIdle}
 use Rattle.declare.proofs.Booleans.{fails}
 use Rattle.declare.proofs.Sweeps.{all-none, all-again}
 use Rattle.declare.proofs.Lists.{all-each}
 use Rattle.standings.specs.declared.Cell.{Cell}
-use Rattle.standings.specs.Places.{idleCell, standingFrom, standingIn, overallIn}
-use Rattle.run.specs.Records.{validZero, idleRow, validOverall}
+use Rattle.standings.specs.Places.{idleCell, overallIn}
+use Rattle.run.specs.Records.{validZero, validOverall}
 use Rattle.run.proofs.Checks.{zero-check, zero-cell}
 use borrow.Author.Needs.{needs}
 use Rattle.run.proofs.record.valid_overall.Statement.{statement}
 use Rattle.run.proofs.record.valid_overall.Tie as tie
 
-abbrev valid : Bool → Table → ℕ → List Cell → List Cell → ℕ → Bool
-valid closed t count cells overall k =
-    not (isOverallRule t (k + 1)) || (validZero closed count (overallIn overall (k + 1)) && idleRow cells (k + 1))
+abbrev valid : Bool → Table → ℕ → List Cell → ℕ → Bool
+valid closed t count overall k = not (isOverallRule t (k + 1)) || validZero closed count (overallIn overall (k + 1))
 
 abbrev Inv-loop : tie.InvT-loop
-Inv-loop closed count cells table overall k₀ k-end k =
-    (k ≤ table .count) × (true ≡ allBelow (valid closed table count cells overall) k)
+Inv-loop closed count table overall k₀ k-end k =
+    (k ≤ table .count) × (true ≡ allBelow (valid closed table count overall) k)
 
 abbrev μ-loop : tie.MeasureT-loop
-μ-loop closed count cells table overall k₀ k-end k = table .count - k
+μ-loop closed count table overall k₀ k-end k = table .count - k
 
-row-is : (cells : List Cell) (k : ℕ) → idleRow cells (k + 1) ≡ allBelow (λ p. isIdle (standingFrom cells (k * 256) (p + 1))) 256
-unfolding idleRow standingIn
-row-is cells k =
-    let e : (k + 1 - 1) * 256 ≡ k * 256 = omega arith in
-    ap (λ (first : ℕ). allBelow (λ p. isIdle (standingFrom cells first (p + 1))) 256) e
-
-judged-then : {v w u : Bool} → v ≡ true → w ≡ u → (v && w) ≡ u
-judged-then p q = rw (p, q)
-
-module _ (closed : Bool) (t : Table) (count : ℕ) (cells overall : List Cell) (k : ℕ) (low : k < t .count) where
+module _ (closed : Bool) (t : Table) (count : ℕ) (overall : List Cell) (k : ℕ) (low : k < t .count) where
   abbrev code : ℕ
   code = getD (t .rules) k noRule .code
 
-  other : isOverall code ≡ false → true ≡ valid closed t count cells overall k
+  other : isOverall code ≡ false → true ≡ valid closed t count overall k
   other o = rw (zero-check t k low, o) refl
 
-  looked : isOverall code ≡ true → (v w : Bool) → v ≡ validZero closed count (getD overall k idleCell .standing) → w ≡ idleRow cells (k + 1) → (v && w) ≡ valid closed t count cells overall k
-  looked o v w e h = rw (zero-check t k low, o, zero-cell overall k, ← e, ← h) refl
+  looked : isOverall code ≡ true → {v : Bool} → v ≡ validZero closed count (getD overall k idleCell .standing) → v ≡ valid closed t count overall k
+  looked o e = rw (zero-check t k low, o, zero-cell overall k) e
 
-  not-judged : isOverall code ≡ true → validZero closed count (getD overall k idleCell .standing) ≡ false → valid closed t count cells overall k ≡ false
-  not-judged o z = sym (looked o false (idleRow cells (k + 1)) (sym z) refl)
-
-  one-invalid : valid closed t count cells overall k ≡ false → false ≡ validOverall closed t count cells overall
+  one-invalid : valid closed t count overall k ≡ false → false ≡ validOverall closed t count overall
   unfolding validOverall
   one-invalid e =
-      sym (fails (allBelow (valid closed t count cells overall) (t .count)) (λ a. all-each (valid closed t count cells overall) (t .count) a k low) e)
+      sym (fails (allBelow (valid closed t count overall) (t .count)) (λ a. all-each (valid closed t count overall) (t .count) a k low) e)
 
 loop-holds : tie.Need-loop-holds Inv-loop μ-loop
 loop-holds c = (omega arith, all-none _)
@@ -84,7 +69,7 @@ unfolding noRule noCondition noComparison
 loop-again c =
     let l = c .before .before .before .before .loop in
     let a = c .before .before .before .before .before .args in
-    (omega arith, all-again _ _ (l .inv .1) (other (a .closed) (a .t2) (a .count) (a .cells) (a .t5) (l .k) (omega arith) (sym (c .before .is-overall .ensures) ∙ not-true _ (c .if1 .taken))))
+    (omega arith, all-again _ _ (l .inv .1) (other (a .closed) (a .t2) (a .count) (a .t4) (l .k) (omega arith) (sym (c .before .is-overall .ensures) ∙ not-true _ (c .if1 .taken))))
 
 mul-c : tie.Need-mul-c Inv-loop μ-loop
 mul-c c = search needs
@@ -101,25 +86,8 @@ returns c =
     let l = c .before .before .before .before .before .before .before .loop in
     let a = c .before .before .before .before .before .before .before .before .args in
     let o = sym (c .before .before .before .before .is-overall .ensures) ∙ not-false _ (c .before .before .before .if1 .left) in
-    one-invalid (a .closed) (a .t2) (a .count) (a .cells) (a .t5) (l .k) (omega arith)
-    (not-judged (a .closed) (a .t2) (a .count) (a .cells) (a .t5) (l .k) (omega arith) o (sym (c .before .valid-zero .ensures) ∙ not-true _ (c .if2 .taken)))
-
-mul-idle-row : tie.Need-mul-idle-row Inv-loop μ-loop
-mul-idle-row c = search needs
-
-idle-row-requires : tie.Need-idle-row-requires Inv-loop μ-loop
-idle-row-requires c κs = search needs
-
-returns-2 : tie.Need-returns-2 Inv-loop μ-loop
-unfolding noRule noCondition noComparison
-returns-2 c =
-    let l = c .before .before .before .before .before .before .before .before .before .loop in
-    let a = c .before .before .before .before .before .before .before .before .before .before .args in
-    let o = sym (c .before .before .before .before .before .before .is-overall .ensures) ∙ not-false _ (c .before .before .before .before .before .if1 .left) in
-    let z = c .before .before .before .valid-zero .ensures in
-    let row = c .before .idle-row .ensures ∙ sym (row-is (a .cells) (l .k)) in
-    one-invalid (a .closed) (a .t2) (a .count) (a .cells) (a .t5) (l .k) (omega arith)
-    (sym (looked (a .closed) (a .t2) (a .count) (a .cells) (a .t5) (l .k) (omega arith) o _ _ z row) ∙ judged-then (not-false (c .before .before .before .valid-zero .result) (c .before .before .if2 .left)) (not-true (c .before .idle-row .result) (c .if3 .taken)))
+    one-invalid (a .closed) (a .t2) (a .count) (a .t4) (l .k) (omega arith)
+    (sym (looked (a .closed) (a .t2) (a .count) (a .t4) (l .k) (omega arith) o (c .before .valid-zero .ensures)) ∙ not-true _ (c .if2 .taken))
 
 add-k-2 : tie.Need-add-k-2 Inv-loop μ-loop
 add-k-2 c = search needs
@@ -130,17 +98,15 @@ loop-less-2 c = search needs
 loop-again-2 : tie.Need-loop-again-2 Inv-loop μ-loop
 unfolding noRule noCondition noComparison
 loop-again-2 c =
-    let l = c .before .before .before .before .before .before .before .before .before .loop in
-    let a = c .before .before .before .before .before .before .before .before .before .before .args in
-    let o = sym (c .before .before .before .before .before .before .is-overall .ensures) ∙ not-false _ (c .before .before .before .before .before .if1 .left) in
-    let z = c .before .before .before .valid-zero .ensures in
-    let row = c .before .idle-row .ensures ∙ sym (row-is (a .cells) (l .k)) in
-    let holds = sym (judged-then (not-false (c .before .before .before .valid-zero .result) (c .before .before .if2 .left)) (not-false (c .before .idle-row .result) (c .if3 .left))) in
-    (omega arith, all-again _ _ (l .inv .1) (holds ∙ looked (a .closed) (a .t2) (a .count) (a .cells) (a .t5) (l .k) (omega arith) o _ _ z row))
+    let l = c .before .before .before .before .before .before .before .loop in
+    let a = c .before .before .before .before .before .before .before .before .args in
+    let o = sym (c .before .before .before .before .is-overall .ensures) ∙ not-false _ (c .before .before .before .if1 .left) in
+    let holds = sym (not-false (c .before .valid-zero .result) (c .if2 .left)) in
+    (omega arith, all-again _ _ (l .inv .1) (holds ∙ looked (a .closed) (a .t2) (a .count) (a .t4) (l .k) (omega arith) o (c .before .valid-zero .ensures)))
 
-returns-3 : tie.Need-returns-3 Inv-loop μ-loop
+returns-2 : tie.Need-returns-2 Inv-loop μ-loop
 unfolding validOverall
-returns-3 c =
+returns-2 c =
     let whole : c .before .loop .k ≡ c .before .before .args .t2 .count = omega arith in
     c .before .loop .inv .1 ∙ ap (allBelow _) whole
 
@@ -161,10 +127,7 @@ valid-overall-spec =
     array-copy-out-c
     valid-zero-requires
     returns
-    mul-idle-row
-    idle-row-requires
-    returns-2
     add-k-2
     loop-less-2
     loop-again-2
-    returns-3)
+    returns-2)
