@@ -129,6 +129,9 @@ records =
     ∷ validRun (ofCycle true 1 1 [] (Violated 2 ∷ [])) is false
     ∷ validRun (ofCycle true 1 1 (Violated 0 ∷ []) (Violated 0 ∷ [])) is false
     ∷ validRun (ofCycle false 1 1 (Open ∷ []) (Open ∷ [])) is false
+    ∷ validRun (ofCycle true 1 256 (replicate 255 Idle ++ (Violated 0 ∷ [])) (Violated 0 ∷ [])) is false
+    -- each row by its own rule
+    ∷ validRun (ofCycle true 2 1 (replicate 256 Idle ++ (Violated 0 ∷ [])) (Violated 0 ∷ [])) is true
     -- of other rules it is not read, nor past the rules
     ∷ validRun (ofCycle true 2 1 [] (Violated 0 ∷ Open ∷ [])) is true
     ∷ validRun (ofCycle true 1 1 [] (Violated 0 ∷ Idle ∷ Fulfilled 9 ∷ [])) is true
