@@ -119,6 +119,11 @@ fn long_cycle(x: &mut Numbers) -> String {
         .collect()
 }
 
+/// One line whose time has so many digits. It is outside its range, so that the rest is not read.
+fn digits_cycle(digits: usize) -> String {
+    "9".repeat(digits) + "\t1\t-\t-\t-\t-\n"
+}
+
 /// 60 cycles of 10 to 50 events.
 fn many_cycles(x: &mut Numbers) -> Vec<String> {
     (0..60)
@@ -139,6 +144,8 @@ fn texts(name: &str) -> (String, Vec<String>) {
         "overall" => (overall_rules() + &rules(x, 12), vec![cycle(x, 256)]),
         "blank" => (String::new(), vec![blank_cycle(x)]),
         "long" => (String::new(), vec![long_cycle(x)]),
+        "digits10" => (String::new(), vec![digits_cycle(10)]),
+        "digits1000" => (String::new(), vec![digits_cycle(1000)]),
         "many10" => (rules(x, 10), many_cycles(x)),
         "many16" => (rules(x, 16), many_cycles(x)),
         _ => (

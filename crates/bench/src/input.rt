@@ -1,6 +1,6 @@
 // The parts of the input.
 use declare::LATEST;
-use line::NumberAnswer;
+use number::NaturalAnswer;
 
 fn wide(x: u32) -> usize {
     x as usize
@@ -11,8 +11,8 @@ pub fn number(part: &[u8], end: u8) -> usize {
     let field = line::number_field(part, end, 0, LATEST);
     let answer = field.answer;
     match answer {
-        NumberAnswer::Number(value) => wide(value),
-        NumberAnswer::NoNumber(_) => 0,
+        NaturalAnswer::Natural(value) => wide(value),
+        NaturalAnswer::NoNatural(_) => 0,
     }
 }
 

@@ -11,12 +11,13 @@ use declare::LAST_ACTIVITY;
 use declare::Refusal;
 use declare::slots::empty_slot;
 use line::LINE_FEED;
-use line::NumberAnswer;
 use line::Outcome;
 use line::ReadingAnswer;
 use line::TAB;
 use line::reading_field;
+use line::refusal_of;
 use line::rest_of;
+use number::NaturalAnswer;
 
 // The tabs between the six fields of a line.
 const TABS: usize = 5;
@@ -34,21 +35,21 @@ fn readings(part: &[u8], time: u32, activity: u8) -> EventAnswer
     let answer = field.answer;
     let reading1 = match answer {
         ReadingAnswer::Read(value) => value,
-        ReadingAnswer::NoReading(cause) => return EventAnswer::NoEvent(cause),
+        ReadingAnswer::NoReading(fault) => return EventAnswer::NoEvent(refusal_of(fault)),
     };
     let part = rest_of(part, field.length);
     let field = reading_field(part, TAB);
     let answer = field.answer;
     let reading2 = match answer {
         ReadingAnswer::Read(value) => value,
-        ReadingAnswer::NoReading(cause) => return EventAnswer::NoEvent(cause),
+        ReadingAnswer::NoReading(fault) => return EventAnswer::NoEvent(refusal_of(fault)),
     };
     let part = rest_of(part, field.length);
     let field = reading_field(part, TAB);
     let answer = field.answer;
     let reading3 = match answer {
         ReadingAnswer::Read(value) => value,
-        ReadingAnswer::NoReading(cause) => return EventAnswer::NoEvent(cause),
+        ReadingAnswer::NoReading(fault) => return EventAnswer::NoEvent(refusal_of(fault)),
     };
     let part = rest_of(part, field.length);
     let field = reading_field(part, LINE_FEED);
@@ -62,7 +63,7 @@ fn readings(part: &[u8], time: u32, activity: u8) -> EventAnswer
             reading3,
             reading4,
         }),
-        ReadingAnswer::NoReading(cause) => EventAnswer::NoEvent(cause),
+        ReadingAnswer::NoReading(fault) => EventAnswer::NoEvent(refusal_of(fault)),
     }
 }
 
@@ -73,15 +74,15 @@ fn read_event(part: &[u8]) -> EventAnswer
     let field = line::number_field(part, TAB, 0, u32::MAX);
     let answer = field.answer;
     let time = match answer {
-        NumberAnswer::Number(value) => value,
-        NumberAnswer::NoNumber(cause) => return EventAnswer::NoEvent(cause),
+        NaturalAnswer::Natural(value) => value,
+        NaturalAnswer::NoNatural(fault) => return EventAnswer::NoEvent(refusal_of(fault)),
     };
     let part = rest_of(part, field.length);
     let field = line::number_field(part, TAB, 1, LAST_ACTIVITY as u32);
     let answer = field.answer;
     let activity = match answer {
-        NumberAnswer::Number(value) => value,
-        NumberAnswer::NoNumber(cause) => return EventAnswer::NoEvent(cause),
+        NaturalAnswer::Natural(value) => value,
+        NaturalAnswer::NoNatural(fault) => return EventAnswer::NoEvent(refusal_of(fault)),
     };
     readings(rest_of(part, field.length), time, activity as u8)
 }

@@ -14,8 +14,6 @@ pub use Rattle.line.specs.declared.Outcome.{Outcome}
 pub use Rattle.line.specs.declared.Outcome.the-variants.{Accepted, Refused}
 pub use Rattle.line.specs.declared.LineScan.{LineScan}
 pub use Rattle.line.specs.declared.FieldScan.{FieldScan}
-pub use Rattle.line.specs.declared.NumberAnswer.{NumberAnswer}
-pub use Rattle.line.specs.declared.NumberAnswer.the-variants.{Number, NoNumber}
 pub use Rattle.line.specs.declared.NumberField.{NumberField}
 pub use Rattle.line.specs.declared.ByteAnswer.{ByteAnswer}
 pub use Rattle.line.specs.declared.ByteAnswer.the-variants.{Byte, NoByte}

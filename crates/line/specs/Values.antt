@@ -2,10 +2,9 @@
 use mathlib.Core.Bool.{cond}
 use mathlib.Core.List.{List, [], _∷_}
 use Prim.Native.Nat.{ℕ}
-use Rattle.declare.specs.Refusals.{numberOf}
 use Rattle.number.specs.Number.{hyphen, dash, naturalOf, integerOf}
 use Rattle.number.specs.Written.{integerText}
-use Rattle.line.specs.Types.{Reading, Blank, Value, Fault, Form, Range, NaturalAnswer, Natural, NoNatural, IntegerAnswer, Integer, NoInteger, NumberAnswer, Number, NoNumber, ByteAnswer, Byte, NoByte, ReadingAnswer, Read, NoReading}
+use Rattle.line.specs.Types.{Reading, Blank, Value, Fault, Form, Range, NaturalAnswer, Natural, NoNatural, IntegerAnswer, Integer, NoInteger, ByteAnswer, Byte, NoByte, ReadingAnswer, Read, NoReading}
 use Rattle.declare.specs.Answers.{Answer, accepted, refused}
 
 -- "field not of the number form" is 2, "number outside its range" 3
@@ -36,14 +35,10 @@ readingText (Value z) = integerText z
 
 -- ---- the code's answers, by document 01's numbers
 
-unfoldable pub numberRead : NumberAnswer → Answer ℕ
-numberRead (Number v) = accepted v
-numberRead (NoNumber cause) = refused (numberOf cause)
-
 unfoldable pub byteRead : ByteAnswer → Answer ℕ
 byteRead (Byte b) = accepted b
-byteRead (NoByte cause) = refused (numberOf cause)
+byteRead (NoByte f) = refused (faultNumber f)
 
 unfoldable pub readingRead : ReadingAnswer → Answer Reading
 readingRead (Read v) = accepted v
-readingRead (NoReading cause) = refused (numberOf cause)
+readingRead (NoReading f) = refused (faultNumber f)

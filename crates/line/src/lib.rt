@@ -6,9 +6,8 @@ ghost use lib.ListN.{getD, take, drop};
 ghost use Rattle.number.specs.Number.{dash};
 ghost use Rattle.line.specs.Fields.{tab, indexOf, before};
 ghost use Rattle.line.specs.Scans.{lineScan, fieldScan, readingBy};
-ghost use Rattle.line.specs.Values.{faultNumber, naturalAnswer, numberField, readingField, numberRead, byteRead, readingRead};
+ghost use Rattle.line.specs.Values.{faultNumber, naturalAnswer, numberField, readingField, byteRead, readingRead};
 ghost use Rattle.declare.specs.Refusals.{numberOf};
-ghost use Rattle.number.specs.Reader.{naturalIn};
 use declare::Reading;
 use declare::Refusal;
 use number::Fault;
@@ -85,7 +84,8 @@ pub fn scan_field(part: &[u8], separator: u8) -> FieldScan
     FieldScan { reader, length: i }
 }
 
-fn refusal_of(fault: Fault) -> Refusal
+// The refusal of a field that is not a number of its range.
+pub fn refusal_of(fault: Fault) -> Refusal
     ensures { λ r. ⌜ numberOf r ≡ faultNumber fault ⌝ }
 {
     match fault {
@@ -94,33 +94,19 @@ fn refusal_of(fault: Fault) -> Refusal
     }
 }
 
-pub enum NumberAnswer {
-    Number(u32),
-    NoNumber(Refusal),
-}
-
 pub struct NumberField {
-    pub answer: NumberAnswer,
+    pub answer: NaturalAnswer,
     pub length: usize,
-}
-
-fn number_answer(reader: Reader, low: u32, high: u32) -> NumberAnswer
-    ensures { λ r. ⌜ numberRead r ≡ naturalAnswer (naturalIn low high reader) ⌝ }
-{
-    match reader.natural(low, high) {
-        NaturalAnswer::Natural(value) => NumberAnswer::Number(value),
-        NaturalAnswer::NoNatural(fault) => NumberAnswer::NoNumber(refusal_of(fault)),
-    }
 }
 
 // The first field as an unsigned number from `low` to `high`.
 pub fn number_field(part: &[u8], separator: u8, low: u32, high: u32) -> NumberField
-    ensures { λ r. ⌜ numberRead (r .answer) ≡ numberField low high (before separator (now (part .entry))) ⌝ }
+    ensures { λ r. ⌜ naturalAnswer (r .answer) ≡ numberField low high (before separator (now (part .entry))) ⌝ }
     ensures { λ r. ⌜ r .length ≡ indexOf separator (now (part .entry)) ⌝ }
 {
     let scan = scan_field(part, separator);
     let reader = scan.reader;
-    let answer = number_answer(reader, low, high);
+    let answer = reader.natural(low, high);
     NumberField {
         answer,
         length: scan.length,
@@ -129,7 +115,7 @@ pub fn number_field(part: &[u8], separator: u8, low: u32, high: u32) -> NumberFi
 
 pub enum ByteAnswer {
     Byte(u8),
-    NoByte(Refusal),
+    NoByte(Fault),
 }
 
 pub struct ByteField {
@@ -146,15 +132,15 @@ pub fn byte_field(part: &[u8], high: u8) -> ByteField
     let number = field.answer;
     let length = field.length;
     match number {
-        NumberAnswer::Number(value) => {
+        NaturalAnswer::Natural(value) => {
             let byte = value as u8;
             ByteField {
                 answer: ByteAnswer::Byte(byte),
                 length,
             }
         }
-        NumberAnswer::NoNumber(cause) => ByteField {
-            answer: ByteAnswer::NoByte(cause),
+        NaturalAnswer::NoNatural(fault) => ByteField {
+            answer: ByteAnswer::NoByte(fault),
             length,
         },
     }
@@ -162,7 +148,7 @@ pub fn byte_field(part: &[u8], high: u8) -> ByteField
 
 pub enum ReadingAnswer {
     Read(Reading),
-    NoReading(Refusal),
+    NoReading(Fault),
 }
 
 pub struct ReadingField {
@@ -178,7 +164,7 @@ fn reading_answer(reader: Reader) -> ReadingAnswer
     }
     match reader.integer() {
         IntegerAnswer::Integer(value) => ReadingAnswer::Read(Reading::Value(value)),
-        IntegerAnswer::NoInteger(fault) => ReadingAnswer::NoReading(refusal_of(fault)),
+        IntegerAnswer::NoInteger(fault) => ReadingAnswer::NoReading(fault),
     }
 }
 

@@ -2,6 +2,7 @@
 pub mod Digits
 pub mod Signed
 pub mod Answers
+pub mod Once
 pub mod Written
 pub mod Lengths
 pub mod Quoted

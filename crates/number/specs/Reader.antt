@@ -2,7 +2,7 @@
 -- running value but no bytes.
 use mathlib.Core.Path.{_≡_}
 use mathlib.Core.Bool.{Bool, true, false, cond}
-use mathlib.Core.List.{List, [], _∷_}
+use mathlib.Core.List.{List, [], _∷_, _++_}
 use Prim.Native.Nat.{ℕ, _+_, _-_, _*_, _<_}
 use lib.Dec.{ltb, eqb}
 use lib.IntN.{pos, negℤ}
@@ -62,9 +62,29 @@ dashIn Zero = false
 dashIn (Digits n v) = false
 dashIn Malformed = false
 
--- "Asked at any point, it gives for the bytes so far exactly document 01's answer, for strings of
--- any length": proved for every list of bytes in proofs/Answers
+-- the running value; 0 where there is none
+unfoldable pub valueIn : Reader → ℕ
+valueIn Empty = 0
+valueIn Minus = 0
+valueIn Zero = 0
+valueIn (Digits n v) = v
+valueIn Malformed = 0
+
+-- ---- what is proved of it, in proofs/Answers and proofs/Once
+
+-- document 01's answer for the bytes so far, unsigned and signed
 pub record AnswersExactly (bs : List ℕ) : Type 0 where
   pub natural : (low high : ℕ) → high < bound → naturalIn low high (after Empty bs) ≡ naturalOf low high bs
   pub integer : integerIn (after Empty bs) ≡ integerOf bs
   pub dashed : dashIn (after Empty bs) ≡ dash bs
+
+-- document 02, "Read each digit a single time"
+pub record ReadsOnce : Type 0 where
+  -- "asked at any point, it gives for the bytes so far exactly document 01's answer, for strings of
+  -- any length"
+  pub exact : (bs : List ℕ) → AnswersExactly bs
+  -- "handed a number's bytes one after another, each once": however they are divided, bytes handed
+  -- on in parts give what they give together
+  pub parts : (r : Reader) (xs ys : List ℕ) → after (after r xs) ys ≡ after r (xs ++ ys)
+  -- "keep a running value but no bytes": no number of bytes takes it past this
+  pub kept : (bs : List ℕ) → valueIn (after Empty bs) < 10 * bound

@@ -1,16 +1,20 @@
 -- What the reader's answers say, by document 01's numbers; how it goes over a line; and what it
 -- promises of a text.
 use mathlib.Core.Path.{_≡_}
+use mathlib.Core.Bool.{cond}
 use mathlib.Core.List.{List, []}
 use Prim.Native.Nat.{ℕ}
 use lib.IntN.{ℤ}
 use Rattle.declare.specs.Refusals.{numberOf}
+use Rattle.declare.specs.Events.{latest}
 use Rattle.declare.specs.Rules.{rulesOf}
 use Rattle.declare.specs.Slots.{tableOf}
+use Rattle.number.specs.Reader.{naturalIn, dashIn}
 use Rattle.line.specs.Fields.{indexOf, before}
+use Rattle.line.specs.Values.{faultNumber, naturalAnswer}
 use Rattle.declare.specs.Answers.{Answer, accepted, refused, _>>=_}
 use Rattle.line.specs.Texts.{Records, All, Stop, recordsRead}
-use Rattle.rule_text.specs.Types.{Operator, Reference, Comparison, Condition, End, Rule, OperatorAnswer, Compares, NoOperator, KAnswer, K, NoK, ReferenceAnswer, Refers, NoReference, ComparisonAnswer, Compared, NotCompared, ConditionAnswer, Comparisons, NoComparisons, EndAnswer, Until, NoUntil, RuleHead, HeadAnswer, Head, NoHead, RuleAnswer, Found, NoRule, RulesRead}
+use Rattle.rule_text.specs.Types.{Operator, Reference, Comparison, Condition, End, Never, At, Rule, Reader, OperatorAnswer, Compares, NoOperator, KAnswer, K, NoK, ReferenceAnswer, Refers, NoReference, ComparisonAnswer, Compared, NotCompared, ConditionAnswer, Comparisons, NoComparisons, EndAnswer, Until, NoUntil, RuleHead, HeadAnswer, Head, NoHead, RuleAnswer, Found, NoRule, RulesRead}
 use Rattle.rule_text.specs.Conditions.{comma}
 use Rattle.rule_text.specs.Rules.{checkedRule, rulesTextOf}
 
@@ -51,7 +55,15 @@ conditionRead (NoComparisons cause) = refused (numberOf cause)
 
 unfoldable pub endRead : EndAnswer → Answer End
 endRead (Until e) = accepted e
-endRead (NoUntil cause) = refused (numberOf cause)
+endRead (NoUntil f) = refused (faultNumber f)
+
+-- a reader's answer as the end of a window
+unfoldable pub endBy : Reader → Answer End
+endBy reader =
+    cond (dashIn reader) (accepted Never)
+    (do
+      b ← naturalAnswer (naturalIn 1 latest reader)
+      accepted (At b))
 
 -- ---- lines
 

@@ -11,6 +11,7 @@ pub use Rattle.declare.specs.declared.Window.{Window}
 pub use Rattle.declare.specs.declared.Rule.{Rule}
 pub use Rattle.declare.specs.declared.Table.{Table}
 pub use Rattle.declare.specs.declared.Refusal.{Refusal}
+pub use Rattle.number.specs.declared.Reader.{Reader}
 pub use Rattle.number.specs.declared.Fault.{Fault}
 pub use Rattle.number.specs.declared.Fault.the-variants.{Form, Range}
 pub use Rattle.number.specs.declared.IntegerAnswer.{IntegerAnswer}

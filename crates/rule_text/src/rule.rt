@@ -4,7 +4,7 @@ ghost use mathlib.Core.Path.{_≡_};
 ghost use Prim.Native.Nat.{_+_};
 ghost use Rattle.line.specs.Fields.{LF, indexOf, fieldsFrom};
 ghost use Rattle.line.specs.Texts.{lineOf};
-ghost use Rattle.line.specs.Values.{numberRead, byteRead};
+ghost use Rattle.line.specs.Values.{naturalAnswer, byteRead};
 ghost use Rattle.rule_text.specs.Rules.{checkedRule, ruleOf};
 ghost use Rattle.rule_text.specs.Reads.{conditionRead, endRead, headRead, headBy, ruleRead, ruleBy};
 use crate::condition::ConditionAnswer;
@@ -20,10 +20,11 @@ use declare::Window;
 use limits::rule::fits_template;
 use line::ByteAnswer;
 use line::LINE_FEED;
-use line::NumberAnswer;
 use line::TAB;
 use line::byte_field;
+use line::refusal_of;
 use line::rest_of;
+use number::NaturalAnswer;
 
 // The tabs between the seven fields of a line.
 const TABS: usize = 6;
@@ -45,26 +46,26 @@ fn head_of(
     code: ByteAnswer,
     activation: ByteAnswer,
     target: ByteAnswer,
-    from: NumberAnswer,
+    from: NaturalAnswer,
     until: EndAnswer,
 ) -> HeadAnswer
-    ensures { λ r. ⌜ headRead r ≡ headBy (byteRead code) (byteRead activation) (byteRead target) (numberRead from) (endRead until) ⌝ }
+    ensures { λ r. ⌜ headRead r ≡ headBy (byteRead code) (byteRead activation) (byteRead target) (naturalAnswer from) (endRead until) ⌝ }
 {
     let code = match code {
         ByteAnswer::Byte(value) => value,
-        ByteAnswer::NoByte(cause) => return HeadAnswer::NoHead(cause),
+        ByteAnswer::NoByte(fault) => return HeadAnswer::NoHead(refusal_of(fault)),
     };
     let activation = match activation {
         ByteAnswer::Byte(value) => value,
-        ByteAnswer::NoByte(cause) => return HeadAnswer::NoHead(cause),
+        ByteAnswer::NoByte(fault) => return HeadAnswer::NoHead(refusal_of(fault)),
     };
     let target = match target {
         ByteAnswer::Byte(value) => value,
-        ByteAnswer::NoByte(cause) => return HeadAnswer::NoHead(cause),
+        ByteAnswer::NoByte(fault) => return HeadAnswer::NoHead(refusal_of(fault)),
     };
     let from = match from {
-        NumberAnswer::Number(value) => value,
-        NumberAnswer::NoNumber(cause) => return HeadAnswer::NoHead(cause),
+        NaturalAnswer::Natural(value) => value,
+        NaturalAnswer::NoNatural(fault) => return HeadAnswer::NoHead(refusal_of(fault)),
     };
     match until {
         EndAnswer::Until(until) => {
@@ -76,7 +77,7 @@ fn head_of(
                 window,
             })
         }
-        EndAnswer::NoUntil(cause) => HeadAnswer::NoHead(cause),
+        EndAnswer::NoUntil(fault) => HeadAnswer::NoHead(refusal_of(fault)),
     }
 }
 

@@ -2,15 +2,29 @@
 ghost use mathlib.Core.Path.{_≡_};
 ghost use Rattle.line.specs.Fields.{tab, indexOf, before};
 ghost use Rattle.rule_text.specs.Rules.{endField, isAbove};
-ghost use Rattle.rule_text.specs.Reads.{endRead};
+ghost use Rattle.rule_text.specs.Reads.{endRead, endBy};
 use declare::End;
-use declare::Refusal;
-use line::NumberAnswer;
 use line::TAB;
+use number::Fault;
+use number::NaturalAnswer;
+use number::Reader;
 
 pub enum EndAnswer {
     Until(End),
-    NoUntil(Refusal),
+    NoUntil(Fault),
+}
+
+// The bytes that the reader was handed, as the end of a window.
+fn end_answer(reader: Reader) -> EndAnswer
+    ensures { λ r. ⌜ endRead r ≡ endBy reader ⌝ }
+{
+    if reader.is_dash() {
+        return EndAnswer::Until(End::Never);
+    }
+    match reader.natural(1, u32::MAX) {
+        NaturalAnswer::Natural(value) => EndAnswer::Until(End::At(value)),
+        NaturalAnswer::NoNatural(fault) => EndAnswer::NoUntil(fault),
+    }
 }
 
 pub struct EndField {
@@ -23,24 +37,12 @@ pub fn end_field(part: &[u8]) -> EndField
     ensures { λ r. ⌜ endRead (r .answer) ≡ endField (before tab (now (part .entry))) ⌝ }
     ensures { λ r. ⌜ r .length ≡ indexOf tab (now (part .entry)) ⌝ }
 {
-    let field = line::number_field(part, TAB, 1, u32::MAX);
-    let number = field.answer;
-    let length = field.length;
-    if line::is_dash(line::part_before(part, length)) {
-        return EndField {
-            answer: EndAnswer::Until(End::Never),
-            length,
-        };
-    }
-    match number {
-        NumberAnswer::Number(value) => EndField {
-            answer: EndAnswer::Until(End::At(value)),
-            length,
-        },
-        NumberAnswer::NoNumber(cause) => EndField {
-            answer: EndAnswer::NoUntil(cause),
-            length,
-        },
+    let scan = line::scan_field(part, TAB);
+    let reader = scan.reader;
+    let answer = end_answer(reader);
+    EndField {
+        answer,
+        length: scan.length,
     }
 }
 

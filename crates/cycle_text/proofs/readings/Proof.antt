@@ -70,9 +70,12 @@ enum-known-answer c = search needs
 enum-known-answer-2 : tie.Need-enum-known-answer-2
 enum-known-answer-2 c = search needs
 
+refusal-of-requires : tie.Need-refusal-of-requires
+refusal-of-requires c κs = search needs
+
 returns : tie.Need-returns
 unfolding eventRead readingRead _>>=_
-returns c = let f = c .before .before .before in sym (by-readings _ _ _ ∙ rw (← f .reading-field .ensures .0, ap readingRead (c .before .answer2 .given .1)))
+returns c = let f = c .before .before .before .before in sym (by-readings _ _ _ ∙ rw (← f .reading-field .ensures .0, ap readingRead (c .before .before .answer2 .given .1), ← c .refusal-of .ensures))
 
 rest-of-requires : tie.Need-rest-of-requires
 rest-of-requires c κs = search needs
@@ -86,9 +89,12 @@ enum-known-answer-3 c = search needs
 enum-known-answer-4 : tie.Need-enum-known-answer-4
 enum-known-answer-4 c = search needs
 
+refusal-of-requires-2 : tie.Need-refusal-of-requires-2
+refusal-of-requires-2 c κs = search needs
+
 returns-2 : tie.Need-returns-2
 unfolding eventRead readingRead _>>=_
-returns-2 c = let f = c .before .before .before in sym (after1 (f .before) ∙ rw (← f .reading-field2 .ensures .0, ap readingRead (c .before .answer4 .given .1)))
+returns-2 c = let f = c .before .before .before .before in sym (after1 (f .before) ∙ rw (← f .reading-field2 .ensures .0, ap readingRead (c .before .before .answer4 .given .1), ← c .refusal-of2 .ensures))
 
 rest-of-requires-2 : tie.Need-rest-of-requires-2
 rest-of-requires-2 c κs = search needs
@@ -102,9 +108,12 @@ enum-known-answer-5 c = search needs
 enum-known-answer-6 : tie.Need-enum-known-answer-6
 enum-known-answer-6 c = search needs
 
+refusal-of-requires-3 : tie.Need-refusal-of-requires-3
+refusal-of-requires-3 c κs = search needs
+
 returns-3 : tie.Need-returns-3
 unfolding eventRead readingRead _>>=_
-returns-3 c = let f = c .before .before .before in sym (after2 (f .before) ∙ rw (← f .reading-field3 .ensures .0, ap readingRead (c .before .answer6 .given .1)))
+returns-3 c = let f = c .before .before .before .before in sym (after2 (f .before) ∙ rw (← f .reading-field3 .ensures .0, ap readingRead (c .before .before .answer6 .given .1), ← c .refusal-of3 .ensures))
 
 rest-of-requires-3 : tie.Need-rest-of-requires-3
 rest-of-requires-3 c κs = search needs
@@ -118,13 +127,16 @@ enum-known-answer-7 c = search needs
 enum-known-answer-8 : tie.Need-enum-known-answer-8
 enum-known-answer-8 c = search needs
 
+refusal-of-requires-4 : tie.Need-refusal-of-requires-4
+refusal-of-requires-4 c κs = search needs
+
 returns-4 : tie.Need-returns-4
 unfolding eventRead readingRead _>>=_
 returns-4 c = let f = c .before .before .before in sym (after3 (f .before) ∙ rw (← f .reading-field4 .ensures .0, ap readingRead (c .before .answer7 .given .1)))
 
 returns-5 : tie.Need-returns-5
 unfolding eventRead readingRead _>>=_
-returns-5 c = let f = c .before .before .before in sym (after3 (f .before) ∙ rw (← f .reading-field4 .ensures .0, ap readingRead (c .before .answer8 .given .1)))
+returns-5 c = let f = c .before .before .before .before in sym (after3 (f .before) ∙ rw (← f .reading-field4 .ensures .0, ap readingRead (c .before .before .answer8 .given .1), ← c .refusal-of4 .ensures))
 
 pub readings-spec : {M : Type 1} → statement M
 readings-spec =
@@ -133,20 +145,24 @@ readings-spec =
     reading-field-requires
     enum-known-answer
     enum-known-answer-2
+    refusal-of-requires
     returns
     rest-of-requires
     reading-field-requires-2
     enum-known-answer-3
     enum-known-answer-4
+    refusal-of-requires-2
     returns-2
     rest-of-requires-2
     reading-field-requires-3
     enum-known-answer-5
     enum-known-answer-6
+    refusal-of-requires-3
     returns-3
     rest-of-requires-3
     reading-field-requires-4
     enum-known-answer-7
     enum-known-answer-8
+    refusal-of-requires-4
     returns-4
     returns-5)

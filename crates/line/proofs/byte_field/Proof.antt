@@ -4,14 +4,14 @@ use native.Mathlib.Omega.{arith}
 use Rattle.line.specs.Fields.{tab, before}
 use Rattle.declare.specs.Answers.{accepted}
 use Rattle.line.proofs.Values.{number-read}
-use Rattle.line.specs.Values.{numberField, numberRead, byteRead}
+use Rattle.line.specs.Values.{naturalAnswer, numberField, byteRead}
 use borrow.Author.Needs.{needs}
 use Rattle.line.proofs.byte_field.Statement.{statement}
 use Rattle.line.proofs.byte_field.Tie as tie
 
 found : (c : tie.After-number) → numberField 1 (c .before .before .before .before .args .high) (before tab (c .before .before .before .before .args .part .now)) ≡ accepted (c .number .given .0 .0)
-unfolding numberRead
-found c = sym (c .before .before .number-field .ensures .0) ∙ ap numberRead (c .number .given .1)
+unfolding naturalAnswer
+found c = sym (c .before .before .number-field .ensures .0) ∙ ap naturalAnswer (c .number .given .1)
 
 number-field-requires : tie.Need-number-field-requires
 number-field-requires c κs = search needs
@@ -30,8 +30,8 @@ unfolding byteRead
 returns c = (sym (found (c .before)), c .before .before .before .number-field .ensures .1)
 
 returns-2 : tie.Need-returns-2
-unfolding byteRead numberRead
-returns-2 c = (sym (ap numberRead (c .before .number2 .given .1)) ∙ c .before .before .before .number-field .ensures .0, c .before .before .before .number-field .ensures .1)
+unfolding byteRead naturalAnswer
+returns-2 c = (sym (ap naturalAnswer (c .before .number2 .given .1)) ∙ c .before .before .before .number-field .ensures .0, c .before .before .before .number-field .ensures .1)
 
 pub byte-field-spec : {M : Type 1} → statement M
 byte-field-spec =

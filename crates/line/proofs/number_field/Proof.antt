@@ -14,17 +14,17 @@ use Rattle.line.proofs.number_field.Tie as tie
 scan-field-requires : tie.Need-scan-field-requires
 scan-field-requires c κs = search needs
 
-number-answer-requires : tie.Need-number-answer-requires
-number-answer-requires c κs = search needs
+natural-requires : tie.Need-natural-requires
+natural-requires c κs = search needs
 
 returns : tie.Need-returns
 unfolding numberField fieldScan bound
 returns c =
     let a = c .before .before .before .args in
     let f = answers (before (a .separator) (a .part .now)) in (
-      c .number-answer .ensures ∙ rw (c .before .scan-field .ensures) (ap naturalAnswer (f .natural (a .low) (a .high) (omega arith))),
+      ap naturalAnswer (c .natural .ensures ∙ rw (c .before .scan-field .ensures) (f .natural (a .low) (a .high) (omega arith))),
       ap (λ (s : FieldScan). s .length) (c .before .scan-field .ensures),
     )
 
 pub number-field-spec : {M : Type 1} → statement M
-number-field-spec = tie.close (tie.spec scan-field-requires number-answer-requires returns)
+number-field-spec = tie.close (tie.spec scan-field-requires natural-requires returns)

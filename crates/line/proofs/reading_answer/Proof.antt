@@ -1,4 +1,4 @@
--- `line::reading_answer`: blank for `-` alone; else the value, or the number of the reader's fault.
+-- `line::reading_answer`: blank for `-` alone; else the value, or the reader's fault.
 use mathlib.Core.Path.{sym, _∙_}
 use mir.Syntax.{w32}
 use mir.Facts.{toZ-ofZ}
@@ -24,16 +24,13 @@ enum-known-value c = search needs
 enum-known-fault : tie.Need-enum-known-fault
 enum-known-fault c = search needs
 
-refusal-of-requires : tie.Need-refusal-of-requires
-refusal-of-requires c κs = search needs
-
 returns-2 : tie.Need-returns-2
 unfolding readingBy integerAnswer readingRead
 returns-2 c = rw (toZ-ofZ {w = w32} (sfits-of (c .known-told .given .0 .1)), sym (c .before .before .before .before .before .is-dash .ensures) ∙ c .before .before .before .before .if1 .left, sym (c .before .before .before .integer .ensures) ∙ c .before .value .given .1)
 
 returns-3 : tie.Need-returns-3
 unfolding readingBy integerAnswer readingRead
-returns-3 c = rw (sym (c .before .before .before .before .before .before .is-dash .ensures) ∙ c .before .before .before .before .before .if1 .left, sym (c .before .before .before .before .integer .ensures) ∙ c .before .before .fault .given .1, c .refusal-of .ensures)
+returns-3 c = rw (sym (c .before .before .before .before .before .is-dash .ensures) ∙ c .before .before .before .before .if1 .left, sym (c .before .before .before .integer .ensures) ∙ c .before .fault .given .1)
 
 pub reading-answer-spec : {M : Type 1} → statement M
 reading-answer-spec =
@@ -44,6 +41,5 @@ reading-answer-spec =
     integer-requires
     enum-known-value
     enum-known-fault
-    refusal-of-requires
     returns-2
     returns-3)
