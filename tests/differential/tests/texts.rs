@@ -1,13 +1,15 @@
 //! The readers of the two texts and the notebook reading. `probe` is needed with
 //! the commands R, Y and N.
 
-use differential::cases::texts::{cycle_case, cycle_text_case, misfit_texts};
+use differential::cases::texts::{cycle_case, cycle_text_case, long_case, misfit_texts};
 use differential::cases::texts::{pair_case, pair_text_case, rules_case, rules_text_case};
 use differential::command::LARGEST_TEXT;
 use differential::compare::agree;
 use differential::probe::Probe;
 use evaluator::damage::{EDGE_FIELDS, ODD_COMPARISONS};
 use evaluator::listing::{CYCLE, RULES};
+use evaluator::long_numbers::{wrapping, MOST_DIGITS};
+use evaluator::random::Random;
 
 #[test]
 fn random_rules_texts() {
@@ -41,6 +43,85 @@ fn random_pairs_of_texts() {
     assert!(counts.answered('N', 0) >= 2000);
     assert!(counts.dumps('D') > counts.answered('N', 0) + 50);
     assert!(counts.standings() >= 20_000);
+}
+
+#[test]
+fn texts_with_long_numbers() {
+    let counts = agree(&Probe::find(), (7_300_000..7_309_000).map(long_case));
+    for letter in ['R', 'Y', 'N'] {
+        assert_eq!(counts.calls(letter), 3000);
+        for number in [0, 2, 3] {
+            let found = counts.answered(letter, number);
+            assert!(found >= 50, "{letter}, {number}: {found}");
+        }
+    }
+}
+
+/// Texts with `number` in each field that holds one.
+fn with_number(number: &str) -> [Vec<String>; 2] {
+    let rule = ["2", "1", "2", "0", "-", "1=5", "1=@1:0"];
+    let event = ["0", "1", "-", "-", "-", "-"];
+    let k = [format!("1={number}"), format!("1=@1:{number}")];
+    let line = |fields: &[&str], at: usize, field: &str| {
+        let mut fields = fields.to_vec();
+        fields[at] = field;
+        fields.join("\t") + "\n"
+    };
+    let numbers = (0..5).map(|at| line(&rule, at, number));
+    let constants = (5..7).zip(&k).map(|(at, k)| line(&rule, at, k));
+    let events = (0..6).map(|at| line(&event, at, number));
+    [numbers.chain(constants).collect(), events.collect()]
+}
+
+/// Compares these texts, and answers how often each was accepted.
+fn agree_on(texts: [Vec<String>; 2]) -> [usize; 2] {
+    let probe = Probe::find();
+    let [rules, cycles] = texts.map(|texts| (0..).zip(texts));
+    let rules = rules.map(|(seed, text)| rules_text_case(seed, text.into_bytes()));
+    let cycles = cycles.map(|(seed, text)| cycle_text_case(seed, text.into_bytes()));
+    let (rules, cycles) = (agree(&probe, rules), agree(&probe, cycles));
+    [rules.answered('R', 0), cycles.answered('Y', 0)]
+}
+
+/// A number of 5,000 digits, and each number with which it begins: the last ones in
+/// range are 4 for a code, 42 for an activity, 4294967295 for a time, a and b, and
+/// 429496729 for k and readings.
+#[test]
+fn every_beginning_of_a_long_number() {
+    let digits = "4294967295".to_string() + &"90817263540".repeat(MOST_DIGITS / 11);
+    let lengths = (1..=40).chain((41..MOST_DIGITS).step_by(40));
+    let lengths = lengths.chain([MOST_DIGITS]);
+    for sign in ["", "-"] {
+        let mut texts = [Vec::new(), Vec::new()];
+        for length in lengths.clone() {
+            let [rules, cycles] = with_number(&format!("{sign}{}", &digits[..length]));
+            texts[0].extend(rules);
+            texts[1].extend(cycles);
+        }
+        let accepted = match sign {
+            "" => [1 + 2 * 2 + 2 * 10 + 2 * 9, 10 + 2 + 4 * 9],
+            _ => [2 * 9, 4 * 9],
+        };
+        assert_eq!(agree_on(texts), accepted);
+    }
+}
+
+/// Numbers that 32 or 64 bits take for one in range, in every field.
+#[test]
+fn numbers_that_wrap() {
+    let random = &mut Random::new(7);
+    let mut texts = [Vec::new(), Vec::new()];
+    for low in [0, 1, 5, 64, 2147483647, 4294967295] {
+        for _ in 0..40 {
+            let number = String::from_utf8(wrapping(random, low)).expect("digits");
+            for number in [format!("-{number}"), number] {
+                let [rules, cycles] = with_number(&number);
+                texts[0].extend(rules);
+                texts[1].extend(cycles);
+            }
+        }
+    }
+    assert_eq!(agree_on(texts), [0, 0]);
 }
 
 /// 16 after the fields and 6, before 8, with its line.

@@ -19,7 +19,8 @@
 //! - [`slots`]: rule tables as a caller may fill them ([`TableRecord`]).
 //! - [`record`]: run records as a caller may fill them ([`Record`]), with
 //!   [`start`], take, close, standing and totals.
-//! - [`text`]: the readers and writers of the two texts.
+//! - [`text`]: the readers and writers of the two texts, [`natural`]: the values of
+//!   numbers of any length.
 //! - [`written`]: [`write_rules_of`] and [`write_cycle_of`] write the texts of a
 //!   table and of a run into a lent buffer, [`write_report_of`] and
 //!   [`print_texts`] what `report` prints for a run and for two texts.
@@ -33,6 +34,7 @@
 //! - [`random`]: rules and cycles around the critical values.
 //! - [`crowded`]: rules and cycles in which many events are eligible.
 //! - [`damage`]: texts, valid and damaged.
+//! - [`long_numbers`]: texts with numbers of up to 5,000 digits.
 //! - [`fabricate`]: run records, grown and changed.
 //!
 //! Test cases that are written out:
@@ -46,7 +48,9 @@ pub mod damage;
 pub mod fabricate;
 pub mod listing;
 pub mod live;
+pub mod long_numbers;
 pub mod model;
+pub mod natural;
 pub mod notebook;
 pub mod overall;
 pub mod random;

@@ -6,6 +6,7 @@
 //! 6 or 7, then 8." Card 3 of document 02 adds 16: "it follows 6".
 
 use crate::model::{Comparison, Event, Operator, Reference, Rule};
+use crate::natural::Natural;
 use crate::refusal::Refusal;
 use crate::slots::{EVENT_SLOTS, RULE_SLOTS};
 use std::ops::RangeInclusive;
@@ -147,12 +148,13 @@ fn has_unsigned_form(field: &[u8]) -> bool {
 
 /// "number outside its range": the value of a field of the number form.
 fn within(field: &[u8], range: RangeInclusive<i128>) -> Result<i128, u8> {
-    // Every range ends far below a number of 20 bytes, and 128 bits hold it.
-    let short = Some(field).filter(|field| field.len() < 20).ok_or(3)?;
-    let value = std::str::from_utf8(short)
-        .ok()
-        .and_then(|digits| digits.parse().ok())
-        .expect("a field of the number form");
+    let (sign, digits) = match field {
+        [b'-', digits @ ..] => (-1, digits),
+        whole => (1, whole),
+    };
+    // No range has a number of more than 64 bits.
+    let size = Natural::of_decimal(digits).small().ok_or(3)?;
+    let value = sign * i128::from(size);
     Some(value).filter(|value| range.contains(value)).ok_or(3)
 }
 

@@ -23,7 +23,7 @@ use std::time::Instant;
 type Kind = (&'static str, fn(u64) -> Case);
 
 /// Each kind of case that `probe` answers.
-const KINDS: [Kind; 18] = [
+const KINDS: [Kind; 19] = [
     (running::KIND, running::case),
     (crowded::KIND, crowded::case),
     (crowded::STALE, crowded::stale_case),
@@ -34,6 +34,7 @@ const KINDS: [Kind; 18] = [
     (texts::RULES, texts::rules_case),
     (texts::CYCLES, texts::cycle_case),
     (texts::PAIRS, texts::pair_case),
+    (texts::LONG, texts::long_case),
     (notebook::KIND, notebook::case),
     (tally::KIND, tally::case),
     (written::KIND, written::case),

@@ -6,12 +6,14 @@ use crate::expected::Expected;
 use crate::script::{new_table, Case, Session};
 use evaluator::damage::{damaged_cycle_text, damaged_rules_text};
 use evaluator::damage::{random_cycle_text, random_rules_text};
+use evaluator::long_numbers::{long_cycle_text, long_rules_text};
 use evaluator::random::Random;
 use evaluator::{read_cycle, read_rules, start, Event, Record};
 
 pub const RULES: &str = "rules-texts";
 pub const CYCLES: &str = "cycle-texts";
 pub const PAIRS: &str = "pairs";
+pub const LONG: &str = "long-numbers";
 
 /// After every so many refusals it is compared that nothing changed.
 const UNCHANGED_EVERY: u64 = 16;
@@ -52,6 +54,27 @@ pub fn misfit_texts() -> Vec<Vec<u8>> {
 pub fn cycle_case(seed: u64) -> Case {
     let text = random_cycle(&mut Random::new(seed));
     cycle_text_case(seed, text)
+}
+
+/// Texts with long numbers: rules, a cycle, or both for the notebook.
+pub fn long_case(seed: u64) -> Case {
+    let random = &mut Random::new(seed);
+    match seed % 3 {
+        0 => {
+            let mut case = Case::new(LONG, seed);
+            compare_rules_text(&mut case, long_rules_text(random));
+            case
+        }
+        1 => {
+            let mut case = Case::new(LONG, seed);
+            compare_cycle_text(&mut case, long_cycle_text(random));
+            case
+        }
+        _ => {
+            let (rules, cycle) = (long_rules_text(random), long_cycle_text(random));
+            compare_pair(Session::started(LONG, seed, &new_table(0)), rules, cycle)
+        }
+    }
 }
 
 fn random_rules(random: &mut Random) -> Vec<u8> {
@@ -176,9 +199,12 @@ fn pair_cycle(random: &mut Random, rules: &[u8]) -> Vec<u8> {
     evaluator::write_cycle(&events)
 }
 
-/// Two texts: the answer, and the closed run, or the run as it was.
 pub fn pair_text_case(seed: u64, rules: Vec<u8>, cycle: Vec<u8>) -> Case {
-    let mut session = Session::started(PAIRS, seed, &new_table(0));
+    compare_pair(Session::started(PAIRS, seed, &new_table(0)), rules, cycle)
+}
+
+/// Two texts: the answer, and the closed run, or the run as it was.
+fn compare_pair(mut session: Session, rules: Vec<u8>, cycle: Vec<u8>) -> Case {
     let answer = session.notebook(rules, cycle);
     match answer {
         Ok(()) => {
@@ -186,7 +212,7 @@ pub fn pair_text_case(seed: u64, rules: Vec<u8>, cycle: Vec<u8>) -> Case {
             session.compare_standings();
             session.all_totals();
         }
-        Err(_) if seed.is_multiple_of(UNCHANGED_EVERY) => session.compare_run(),
+        Err(_) if session.case.seed.is_multiple_of(UNCHANGED_EVERY) => session.compare_run(),
         Err(_) => {}
     }
     session.case
