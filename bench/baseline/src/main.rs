@@ -134,11 +134,20 @@ fn asked(letter: u8, run: &Run, turns: usize, copies: &mut Copies) -> u64 {
     sum
 }
 
-fn readings(cycle: &[u8], turns: usize) -> u64 {
+fn cycles_read(cycle: &[u8], turns: usize) -> u64 {
     let mut sum = 0;
     for _ in 0..turns {
         let read = text::read_cycle(black_box(cycle));
         sum = joined(sum, read.map_or(0, |c| c.events[255].time as u64));
+    }
+    sum
+}
+
+fn rules_read(rules: &[u8], turns: usize) -> u64 {
+    let mut sum = 0;
+    for _ in 0..turns {
+        let read = text::read_rules(black_box(rules));
+        sum = joined(sum, read.map_or(0, |t| t.rules[15].window.from as u64));
     }
     sum
 }
@@ -206,7 +215,8 @@ fn work(text: &[u8], bytes_copied: usize) -> u64 {
         cycles.push(part(&mut rest, bytes));
     }
     match letter {
-        b'r' => readings(cycles[0], turns),
+        b'r' => cycles_read(cycles[0], turns),
+        b'u' => rules_read(rules, turns),
         b'n' | b'v' => notebooks(letter, rules, &cycles, turns),
         _ => cycle_calls(
             letter,

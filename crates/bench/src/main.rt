@@ -6,8 +6,8 @@
 // 65,536 bytes. Standard output: one number, made of the answers. Letters: t the last event of the
 // first cycle is taken `turns` times, each time by the run of the events before it; c the first
 // cycle is run from start to close; x closed; s its standings are asked; o its totals; r its text
-// is read; n the notebook of each cycle is read; v the same, and every standing is looked at; w the
-// first cycle's events are written as a text; p the rules are.
+// is read; u the rules text is; n the notebook of each cycle is read; v the same, and every standing
+// is looked at; w the first cycle's events are written as a text; p the rules are.
 mod input; // input.rt: the parts of the input
 mod weight; // weight.rt: answers made numbers
 mod cycle; // cycle.rt: the calls of a running cycle
@@ -16,7 +16,8 @@ mod written; // written.rt: records written as texts
 
 fn measured(letter: u8, turns: usize, cycles: usize, rules: &[u8], rest: &[u8]) -> u64 {
     match letter {
-        b'r' => texts::readings(input::cycle_of(rest), turns),
+        b'r' => texts::cycles(input::cycle_of(rest), turns),
+        b'u' => texts::rules(rules, turns),
         b'n' => texts::notebooks(rules, rest, cycles, turns),
         b'v' => texts::checks(rules, rest, cycles, turns),
         _ => cycle::measured(letter, turns, rules, input::cycle_of(rest)),

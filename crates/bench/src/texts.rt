@@ -2,22 +2,40 @@
 use crate::input;
 use crate::weight;
 use cycle_text::CycleRead;
+use rule_text::RulesRead;
 
 fn wide(x: u32) -> u64 {
     x as u64
 }
 
-fn of_read(read: CycleRead) -> u64 {
+fn of_cycle(read: CycleRead) -> u64 {
     let events = read.events;
     let last = events[255];
     wide(last.time)
 }
 
-pub fn readings(cycle: &[u8], turns: usize) -> u64 {
+pub fn cycles(cycle: &[u8], turns: usize) -> u64 {
     let mut sum: u64 = 0;
     for i in 0..turns {
         let read = cycle_text::read_cycle(cycle);
-        sum = weight::joined(sum, of_read(read));
+        sum = weight::joined(sum, of_cycle(read));
+    }
+    sum
+}
+
+fn of_rules(read: RulesRead) -> u64 {
+    let table = read.table;
+    let rules = table.rules;
+    let last = rules[15];
+    let window = last.window;
+    wide(window.from)
+}
+
+pub fn rules(text: &[u8], turns: usize) -> u64 {
+    let mut sum: u64 = 0;
+    for i in 0..turns {
+        let read = rule_text::read_rules(text);
+        sum = weight::joined(sum, of_rules(read));
     }
     sum
 }

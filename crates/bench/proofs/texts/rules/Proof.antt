@@ -1,23 +1,23 @@
 -- A loop over the turns.
 use borrow.Author.Needs.{needs}
 use Prim.Native.Nat.{_-_, _≤_}
-use Rattle.bench.proofs.texts.readings.Statement.{statement}
-use Rattle.bench.proofs.texts.readings.Tie as tie
+use Rattle.bench.proofs.texts.rules.Statement.{statement}
+use Rattle.bench.proofs.texts.rules.Tie as tie
 
 abbrev Inv-loop : tie.InvT-loop
-Inv-loop cycle turns sum₀ i₀ sum i = i ≤ turns
+Inv-loop text turns sum₀ i₀ sum i = i ≤ turns
 
 abbrev μ-loop : tie.MeasureT-loop
-μ-loop cycle turns sum₀ i₀ sum i = turns - i
+μ-loop text turns sum₀ i₀ sum i = turns - i
 
 loop-holds : tie.Need-loop-holds Inv-loop μ-loop
 loop-holds c = search needs
 
-read-cycle-requires : tie.Need-read-cycle-requires Inv-loop μ-loop
-read-cycle-requires c κs = search needs
+read-rules-requires : tie.Need-read-rules-requires Inv-loop μ-loop
+read-rules-requires c κs = search needs
 
-of-read-requires : tie.Need-of-read-requires Inv-loop μ-loop
-of-read-requires c κs = search needs
+of-rules-requires : tie.Need-of-rules-requires Inv-loop μ-loop
+of-rules-requires c κs = search needs
 
 joined-requires : tie.Need-joined-requires Inv-loop μ-loop
 joined-requires c κs = search needs
@@ -34,15 +34,15 @@ loop-again c = search needs
 returns : tie.Need-returns Inv-loop μ-loop
 returns c = search needs
 
-pub readings-spec : {M : Type 1} → statement M
-readings-spec =
+pub rules-spec : {M : Type 1} → statement M
+rules-spec =
     tie.close
     (tie.spec
     Inv-loop
     μ-loop
     loop-holds
-    read-cycle-requires
-    of-read-requires
+    read-rules-requires
+    of-rules-requires
     joined-requires
     add-i
     loop-less
