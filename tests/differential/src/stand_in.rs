@@ -9,6 +9,7 @@ use evaluator::{absorb, notebook_record, place, read_cycle, read_rules, start, v
 use evaluator::{Comparison, ConditionSlot, Event, Operator, Record, Reference, Refusal};
 use evaluator::{RuleSlot, Standing, TableRecord, Tally, Text};
 
+mod numbers;
 mod overall;
 mod printed;
 mod targets;
@@ -48,6 +49,14 @@ pub enum Mistake {
     DropsComparisons,
     /// A cycle text has 0 for a blank.
     ReadsBlanksAsZero,
+    /// The value of a number goes round at 2^32.
+    CountsIn32Bits,
+    /// The value of a number goes round at 2^64.
+    CountsIn64Bits,
+    /// Of a number the first ten digits are read.
+    ReadsTenDigits,
+    /// A number of 20 digits and more is not of the form.
+    MalformsLongNumbers,
     /// The notebook names the position after the target.
     NamesTheNext,
     /// The notebook names the earliest eligible position.
@@ -153,7 +162,7 @@ pub enum Mistake {
 }
 
 impl Mistake {
-    pub const ALL: [Mistake; 65] = [
+    pub const ALL: [Mistake; 69] = [
         Mistake::NeverOpen,
         Mistake::JudgesAnew,
         Mistake::NamesTheEarliest,
@@ -168,6 +177,10 @@ impl Mistake {
         Mistake::LinesFromZero,
         Mistake::DropsComparisons,
         Mistake::ReadsBlanksAsZero,
+        Mistake::CountsIn32Bits,
+        Mistake::CountsIn64Bits,
+        Mistake::ReadsTenDigits,
+        Mistake::MalformsLongNumbers,
         Mistake::NamesTheNext,
         Mistake::ReadsTheEarliest,
         Mistake::ReadsTheLatest,
@@ -555,6 +568,7 @@ impl State {
     }
 
     fn read_text(&mut self, letter: u8, text: &[u8]) {
+        let text = &self.misread(text)[..];
         if letter == b'R' {
             let read = self.mistaken_rules(text, read_rules(text));
             let answer = read.map(|mut rules| {
@@ -580,7 +594,7 @@ impl State {
 
     fn notebook(&mut self, rules: &[u8], cycle: &[u8]) {
         let mut rest = [0; 12];
-        let refusal = match notebook_record(rules, cycle) {
+        let refusal = match notebook_record(&self.misread(rules), &self.misread(cycle)) {
             Ok(mut run) => {
                 if self.has(Mistake::NamesTheNext) {
                     run.standings.iter_mut().for_each(name_next);

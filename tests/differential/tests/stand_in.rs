@@ -71,6 +71,10 @@ fn pair_cases() -> Vec<Case> {
     (1..=60).map(texts::pair_case).collect()
 }
 
+fn long_number_cases() -> Vec<Case> {
+    (1..=150).map(texts::long_case).collect()
+}
+
 fn notebook_cases() -> Vec<Case> {
     (1..=20).map(notebook::case).collect()
 }
@@ -138,6 +142,7 @@ fn the_evaluator_agrees_with_itself() {
         rules_cases(),
         cycle_cases(),
         pair_cases(),
+        long_number_cases(),
         notebook_cases(),
         tally_cases(),
         written_cases(),
@@ -162,7 +167,7 @@ fn the_evaluator_agrees_with_itself() {
 /// A mistake, and the cases that have to find it.
 type Finder = (Mistake, fn() -> Vec<Case>);
 
-const FINDERS: [Finder; 120] = [
+const FINDERS: [Finder; 124] = [
     (Mistake::NeverOpen, running_cases),
     (Mistake::JudgesAnew, stale_cases),
     (Mistake::JudgesAnew, crowded_stale_cases),
@@ -181,6 +186,10 @@ const FINDERS: [Finder; 120] = [
     (Mistake::LinesFromZero, pair_cases),
     (Mistake::DropsComparisons, rules_cases),
     (Mistake::ReadsBlanksAsZero, cycle_cases),
+    (Mistake::CountsIn32Bits, long_number_cases),
+    (Mistake::CountsIn64Bits, long_number_cases),
+    (Mistake::ReadsTenDigits, long_number_cases),
+    (Mistake::MalformsLongNumbers, long_number_cases),
     (Mistake::NamesTheNext, pair_cases),
     (Mistake::NamesTheNext, notebook_cases),
     (Mistake::ReadsTheEarliest, crowded_cases),
