@@ -97,7 +97,7 @@ pub fn cycle_line(rest: &[u8]) -> CycleLine
     ensures { λ r. ⌜ eventRead (r .answer) ≡ lineOf eventOf (now (rest .entry)) ⌝ }
     ensures { λ r. ⌜ r .next ≡ indexOf LF (now (rest .entry)) + 1 ⌝ }
 {
-    let scan = line::scan_line(rest, TAB);
+    let scan = line::scan_line(rest);
     let end = scan.end;
     let next = end + 1;
     if rest.len() <= end {
@@ -106,7 +106,7 @@ pub fn cycle_line(rest: &[u8]) -> CycleLine
             next,
         };
     }
-    if scan.separators != TABS {
+    if scan.tabs != TABS {
         return CycleLine {
             answer: EventAnswer::NoEvent(Refusal::FieldCount),
             next,

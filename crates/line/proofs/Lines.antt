@@ -52,7 +52,7 @@ all-numbered n fields h = numbered-take n fields (omega arith) ∙ take-all n fi
 
 -- ---- the checks before the fields, by the scan of the line with which s begins
 
-module _ (s : List ℕ) (scan : LineScan) (h : scan ≡ lineScan tab s) where
+module _ (s : List ℕ) (scan : LineScan) (h : scan ≡ lineScan s) where
   pub end-is : scan .end ≡ indexOf LF s
   unfolding lineScan
   end-is = ap (λ (k : LineScan). k .end) h
@@ -61,9 +61,9 @@ module _ (s : List ℕ) (scan : LineScan) (h : scan ≡ lineScan tab s) where
   end-within = omega (arith, end-is, index-le LF s)
 
   -- a field more than tabs
-  fields-are : length (split tab (before LF s)) ≡ scan .separators + 1
+  fields-are : length (split tab (before LF s)) ≡ scan .tabs + 1
   unfolding lineScan
-  fields-are = omega (arith, count-parts tab (before LF s), ap (λ (k : LineScan). k .separators) h)
+  fields-are = omega (arith, count-parts tab (before LF s), ap (λ (k : LineScan). k .tabs) h)
 
   module _ {A : Type 0} (holds : List (List ℕ) → Answer A) where
     pub no-line-end : length s ≤ scan .end → lineOf holds s ≡ refused 12
@@ -75,8 +75,8 @@ module _ (s : List ℕ) (scan : LineScan) (h : scan ≡ lineScan tab s) where
       unfolding lineOf
       ended = rw (lt-ltb (indexOf LF s) (length s) (omega (arith, end-is)))
 
-      pub other-count : (n : ℕ) → ((fields : List (List ℕ)) → (length fields ≡ suc n → ⊥) → holds fields ≡ refused 1) → (scan .separators ≡ n → ⊥) → lineOf holds s ≡ refused 1
+      pub other-count : (n : ℕ) → ((fields : List (List ℕ)) → (length fields ≡ suc n → ⊥) → holds fields ≡ refused 1) → (scan .tabs ≡ n → ⊥) → lineOf holds s ≡ refused 1
       other-count n f m = ended ∙ f _ (λ e. m (omega (arith, fields-are)))
 
-      pub fields-of : (n : ℕ) → scan .separators ≡ n → lineOf holds s ≡ holds (fieldsFrom n s)
+      pub fields-of : (n : ℕ) → scan .tabs ≡ n → lineOf holds s ≡ holds (fieldsFrom n s)
       fields-of n m = ended ∙ ap holds (fields-from n s (omega (arith, fields-are)))

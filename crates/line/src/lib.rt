@@ -28,25 +28,29 @@ pub enum Outcome {
 
 pub struct LineScan {
     pub end: usize,
-    pub separators: usize,
+    pub tabs: usize,
 }
 
-// Where LF ends the first line, or the text's length; and the separators before it.
-pub fn scan_line(text: &[u8], separator: u8) -> LineScan
-    ensures { λ r. ⌜ r ≡ lineScan separator (now (text .entry)) ⌝ }
+// Where LF ends the first line, or the text's length; and the tabs before it.
+pub fn scan_line(text: &[u8]) -> LineScan
+    ensures { λ r. ⌜ r ≡ lineScan (now (text .entry)) ⌝ }
 {
-    let mut separators: usize = 0;
+    let mut tabs: usize = 0;
     let mut i = 0;
     while i < text.len() {
-        if text[i] == LINE_FEED {
-            return LineScan { end: i, separators };
-        }
-        if text[i] == separator {
-            separators += 1;
+        let byte = text[i];
+        // Most bytes are above LF and tab, and need one test.
+        if byte <= LINE_FEED {
+            if byte == LINE_FEED {
+                return LineScan { end: i, tabs };
+            }
+            if byte == TAB {
+                tabs += 1;
+            }
         }
         i += 1;
     }
-    LineScan { end: i, separators }
+    LineScan { end: i, tabs }
 }
 
 // Where `byte` stands first, or the length.

@@ -165,7 +165,7 @@ pub fn rule_line(rest: &[u8]) -> RuleLine
     ensures { λ r. ⌜ ruleRead (r .answer) ≡ lineOf ruleOf (now (rest .entry)) ⌝ }
     ensures { λ r. ⌜ r .next ≡ indexOf LF (now (rest .entry)) + 1 ⌝ }
 {
-    let scan = line::scan_line(rest, TAB);
+    let scan = line::scan_line(rest);
     let end = scan.end;
     let next = end + 1;
     if rest.len() <= end {
@@ -174,7 +174,7 @@ pub fn rule_line(rest: &[u8]) -> RuleLine
             next,
         };
     }
-    if scan.separators != TABS {
+    if scan.tabs != TABS {
         return RuleLine {
             answer: RuleAnswer::NoRule(Refusal::FieldCount),
             next,
