@@ -9,7 +9,7 @@ use borrow.Author.Tests.{ltb-true}
 use lib.Dec.{ltb, eqb}
 use Rattle.number.specs.Types.{Reader, Empty, Minus, Zero, Digits, Malformed}
 use Rattle.number.specs.Number.{digit}
-use Rattle.number.specs.Reader.{bound, extended, firstDigit, pushed, after, valueIn, ReadsOnce}
+use Rattle.number.specs.Reader.{bound, extended, firstDigit, pushed, after, ReadsOnce}
 use Rattle.number.proofs.Digits.{digit-high}
 use Rattle.number.proofs.Answers.{answers}
 
@@ -20,6 +20,14 @@ parts r [] ys = refl
 parts r (x ∷ xs) ys = parts (pushed r x) xs ys
 
 -- ---- the running value
+
+-- 0 where there is none
+valueIn : Reader → ℕ
+valueIn Empty = 0
+valueIn Minus = 0
+valueIn Zero = 0
+valueIn (Digits n v) = v
+valueIn Malformed = 0
 
 first-kept : (n : Bool) (b : ℕ) → valueIn (firstDigit n b) < 10 * bound
 unfolding firstDigit valueIn bound
@@ -60,9 +68,9 @@ unfolding after
 after-kept r [] l = l
 after-kept r (b ∷ bs) l = after-kept (pushed r b) bs (pushed-kept r b l)
 
-kept : (bs : List ℕ) → valueIn (after Empty bs) < 10 * bound
+kept : (bs : List ℕ) (n : Bool) (v : ℕ) → after Empty bs ≡ Digits n v → v < 10 * bound
 unfolding valueIn bound
-kept bs = after-kept Empty bs (omega arith)
+kept bs n v e = rw e at (after-kept Empty bs (omega arith))
 
 pub reads-once : ReadsOnce
 reads-once = record { exact = answers; parts = parts; kept = kept }

@@ -62,14 +62,6 @@ dashIn Zero = false
 dashIn (Digits n v) = false
 dashIn Malformed = false
 
--- the running value; 0 where there is none
-unfoldable pub valueIn : Reader → ℕ
-valueIn Empty = 0
-valueIn Minus = 0
-valueIn Zero = 0
-valueIn (Digits n v) = v
-valueIn Malformed = 0
-
 -- ---- what is proved of it, in proofs/Answers and proofs/Once
 
 -- document 01's answer for the bytes so far, unsigned and signed
@@ -86,5 +78,6 @@ pub record ReadsOnce : Type 0 where
   -- "handed a number's bytes one after another, each once": however they are divided, bytes handed
   -- on in parts give what they give together
   pub parts : (r : Reader) (xs ys : List ℕ) → after (after r xs) ys ≡ after r (xs ++ ys)
-  -- "keep a running value but no bytes": no number of bytes takes it past this
-  pub kept : (bs : List ℕ) → valueIn (after Empty bs) < 10 * bound
+  -- "keep a running value but no bytes": a state has at most a sign and a value, and no number of
+  -- bytes takes the value further than this
+  pub kept : (bs : List ℕ) (n : Bool) (v : ℕ) → after Empty bs ≡ Digits n v → v < 10 * bound

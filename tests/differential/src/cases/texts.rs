@@ -199,6 +199,7 @@ fn pair_cycle(random: &mut Random, rules: &[u8]) -> Vec<u8> {
     evaluator::write_cycle(&events)
 }
 
+/// These two texts for the notebook.
 pub fn pair_text_case(seed: u64, rules: Vec<u8>, cycle: Vec<u8>) -> Case {
     compare_pair(Session::started(PAIRS, seed, &new_table(0)), rules, cycle)
 }
