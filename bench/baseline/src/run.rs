@@ -58,13 +58,22 @@ fn valid_standing(closed: bool, count: usize, s: Standing) -> bool {
     }
 }
 
-/// A rule about the cycle stands idle at every event.
-fn valid_row(closed: bool, count: usize, rule: &Rule, row: &[Standing]) -> bool {
-    let count = if rule.is_overall() { 0 } else { count };
-    row[..count]
-        .iter()
-        .all(|&s| valid_standing(closed, count, s))
-        && row[count..].iter().all(|&s| s == Standing::Idle)
+/// A rule about the cycle stands idle at every event. One pass checks the row and counts it.
+fn valid_row(run: &Run, k: usize) -> bool {
+    let (zero, row) = (run.zero(k), run.row(k));
+    let count = match run.table.rules[k].is_overall() {
+        true => 0,
+        false => run.count,
+    };
+    let mut counted = NO_TOTALS;
+    counted.count(zero);
+    row[..count].iter().all(|&s| {
+        s == Standing::Idle || {
+            counted.count(s);
+            valid_standing(run.closed, count, s)
+        }
+    }) && row[count..].iter().all(|&s| s == Standing::Idle)
+        && counted == run.totals[k]
 }
 
 /// Position 0 of other rules is not looked at.
@@ -75,9 +84,8 @@ fn valid_zero(closed: bool, count: usize, rule: &Rule, s: Standing) -> bool {
 fn valid_standings(run: &Run) -> bool {
     let (closed, count) = (run.closed, run.count);
     let rules = run.table.used();
-    let mut rows = rules.iter().zip(run.cells.chunks_exact(256));
     let mut zeros = rules.iter().zip(run.overall);
-    rows.all(|(rule, row)| valid_row(closed, count, rule, row))
+    (0..rules.len()).all(|k| valid_row(run, k))
         && zeros.all(|(rule, s)| valid_zero(closed, count, rule, s))
 }
 
@@ -95,22 +103,46 @@ impl Run {
         }
         let mut overall = [Standing::Idle; 16];
         judge_overall(true, table.used(), &[], 0, &mut overall);
-        Ok(Run {
+        let mut run = Run {
             closed: false,
             table,
             count: 0,
             events: [SLOT; 256],
             cells: [Standing::Idle; 4096],
             overall,
-        })
+            totals: [NO_TOTALS; 16],
+        };
+        run.count_totals();
+        Ok(run)
     }
 
-    /// Judges all standings of the running cycle.
+    fn row(&self, k: usize) -> &[Standing] {
+        &self.cells[k * 256..][..256]
+    }
+
+    fn counted(&self, k: usize) -> Totals {
+        let mut t = NO_TOTALS;
+        t.count(self.zero(k));
+        for &s in &self.row(k)[..self.count] {
+            t.count(s);
+        }
+        t
+    }
+
+    /// Stores the totals of each rule.
+    pub fn count_totals(&mut self) {
+        for k in 0..self.table.count {
+            self.totals[k] = self.counted(k);
+        }
+    }
+
+    /// Judges all standings of the running cycle, and counts them.
     pub fn judge(&mut self, horizon: u32) {
         let rules = self.table.used();
         let events = &self.events[..self.count];
         judge_cells(true, rules, events, horizon, &mut self.cells);
         judge_overall(true, rules, events, horizon, &mut self.overall);
+        self.count_totals();
     }
 
     #[inline(never)]
@@ -162,6 +194,7 @@ impl Run {
         let events = &self.events[..self.count];
         judge_overall(false, rules, events, 0, &mut self.overall);
         self.closed = true;
+        self.count_totals();
         Ok(())
     }
 
@@ -201,11 +234,6 @@ impl Run {
         if !(1..=self.table.count).contains(&rule) {
             return Err(10);
         }
-        let mut t = NO_TOTALS;
-        t.count(self.zero(rule - 1));
-        for &s in &self.cells[(rule - 1) * 256..][..self.count] {
-            t.count(s);
-        }
-        Ok(t)
+        Ok(self.totals[rule - 1])
     }
 }

@@ -281,12 +281,15 @@ pub fn read_notebook(rules: &[u8], cycle: &[u8]) -> Result<Run, (Which, Cause, u
     judge_cells(false, table.used(), events, 0, &mut cells);
     let mut overall = [Standing::Idle; 16];
     judge_overall(false, table.used(), events, 0, &mut overall);
-    Ok(Run {
+    let mut run = Run {
         closed: true,
         table,
         count: read.count,
         events: read.events,
         cells,
         overall,
-    })
+        totals: [NO_TOTALS; 16],
+    };
+    run.count_totals();
+    Ok(run)
 }

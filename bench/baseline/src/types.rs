@@ -82,7 +82,7 @@ pub enum Which {
     Cycle,
 }
 
-#[derive(Clone, Copy)]
+#[derive(Clone, Copy, PartialEq)]
 pub struct Totals {
     pub activations: u16,
     pub fulfilled: u16,
@@ -99,6 +99,7 @@ pub struct Run {
     pub cells: [Standing; 4096],
     /// Position 0 of each rule.
     pub overall: [Standing; 16],
+    pub totals: [Totals; 16],
 }
 
 pub const SLOT: Event = Event {

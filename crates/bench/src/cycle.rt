@@ -9,6 +9,7 @@ use declare::numbers::less_one;
 use judge::cells::judge_cells;
 use judge::overall::judge_overall;
 use run::Run;
+use standings::totals::zero_totals;
 
 // The run of a table that has taken the first n events.
 fn taken(table: Table, events: [Event; EVENTS], n: usize) -> Run {
@@ -32,12 +33,17 @@ fn judged(table: Table, events: [Event; EVENTS], n: usize) -> Run {
     let last = event_at(events, less_one(n));
     let cells = run.cells;
     let overall = run.overall;
-    let standings = judge_cells(true, table, events, n, last.time, cells);
+    let totals = run.totals;
     let zero = judge_overall(true, table, events, n, last.time, overall);
+    let begun = zero_totals(table, zero, totals);
+    let next = judge_cells(true, table, events, n, last.time, cells, begun);
+    let judged = next.cells;
+    let counted = next.totals;
     run.count = n;
     run.events = events;
-    run.cells = standings;
+    run.cells = judged;
     run.overall = zero;
+    run.totals = counted;
     run
 }
 

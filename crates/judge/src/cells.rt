@@ -1,8 +1,10 @@
 // All standings of a run at its events.
 ghost use mathlib.Core.Path.{_≡_};
-ghost use Prim.Native.Nat.{_+_};
+ghost use Prim.Native.Nat.{_+_, min};
 ghost use lib.ListN.{length};
+ghost use Rattle.declare.specs.Limits.{mostEvents};
 ghost use Rattle.declare.specs.Steps.{carried};
+ghost use Rattle.standings.specs.Totals.{rowTotals};
 ghost use Rattle.judge.specs.Cells.{judged, judgedCells};
 ghost use Rattle.judge.specs.Columns.{eventsIn};
 ghost use Rattle.judge.specs.Ready.{Ready};
@@ -26,7 +28,10 @@ use declare::kind::is_decided;
 use declare::kind::is_idle;
 use declare::numbers::min;
 use standings::Cell;
+use standings::CountedCells;
 use standings::PLACES;
+use standings::totals::Totals;
+use standings::totals::with_standing;
 
 // What becomes of the standing s of the event `act` at place p. A decided one is carried over; of
 // an activation, the nearest event that suits it decides, else whether one may still come. The row
@@ -76,6 +81,7 @@ fn judge<'a>(
 // The cells after a step: under each rule of the table and for each of the first n events, a
 // decided standing is carried over, and any other follows from the events. In a running cycle
 // further events may come, none before the horizon. Most cells stay idle: those are passed over.
+// The same pass counts them into the totals.
 pub fn judge_cells(
     running: bool,
     table: Table,
@@ -83,8 +89,9 @@ pub fn judge_cells(
     n: usize,
     horizon: u32,
     mut cells: [Cell; PLACES],
-) -> [Cell; PLACES]
-    ensures { λ r. ⌜ r ≡ judgedCells running table events n horizon cells ⌝ }
+    mut totals: [Totals; RULES],
+) -> CountedCells
+    ensures { λ r. ⌜ (r .cells ≡ judgedCells running table events n horizon cells) × (r .totals ≡ rowTotals (table .count) (min n mostEvents) (r .cells) totals) ⌝ }
 {
     let rows = min(table.count, RULES);
     let width = min(n, EVENTS);
@@ -118,8 +125,13 @@ pub fn judge_cells(
                 s,
             );
             cells[j] = Cell { standing: next };
+            let t = totals[j / EVENTS];
+            totals[j / EVENTS] = with_standing(t, next);
         }
         j += 1;
     }
-    cells
+    CountedCells {
+        cells: cells,
+        totals: totals,
+    }
 }

@@ -21,6 +21,7 @@ use declare::Rule;
 use run::Run;
 use standings::Cell;
 use standings::PLACES;
+use standings::totals::Totals;
 
 pub fn least(x: usize, y: usize) -> usize
     ensures { λ r. ⌜ (r ≤ x) × (r ≤ y) ⌝ }
@@ -91,6 +92,26 @@ pub fn overall(run: Run) -> Run {
     let cells = run.overall;
     write_overall(cells);
     run
+}
+
+fn write_totals(totals: Totals) {
+    let mut out = [0u8; 8];
+    out[0] = low(totals.activations);
+    out[1] = high(totals.activations);
+    out[2] = low(totals.fulfilled);
+    out[3] = high(totals.fulfilled);
+    out[4] = low(totals.violated);
+    out[5] = high(totals.violated);
+    out[6] = low(totals.open);
+    out[7] = high(totals.open);
+    io::write_all(1, &out);
+}
+
+fn write_all_totals(totals: [Totals; RULES]) {
+    for k in 0..RULES {
+        let t = totals[k];
+        write_totals(t);
+    }
 }
 
 fn operator_byte(operator: Operator) -> u8 {
@@ -288,5 +309,7 @@ pub fn whole(run: Run) -> Run {
     write_rows(cells, RULES, EVENTS);
     let zero = run.overall;
     write_overall(zero);
+    let totals = run.totals;
+    write_all_totals(totals);
     run
 }

@@ -46,8 +46,8 @@ fn change_run(table: Table, run: Run, command: [u8; 32]) -> Run {
     match letter {
         // T
         84 => record::with_table(run, table),
-        // C F E S
-        67 | 70 | 69 | 83 => record::changed(run, command),
+        // C F E S O
+        67 | 70 | 69 | 83 | 79 => record::changed(run, command),
         // s
         115 => calls::start(run, table),
         // e x g o

@@ -8,6 +8,7 @@ use declare::slots::empty_table;
 use run::Run;
 use standings::Cell;
 use standings::PLACES;
+use standings::totals::Totals;
 
 pub fn empty() -> Run {
     let step = Run::start(empty_table());
@@ -20,7 +21,8 @@ pub fn with_table(run: Run, table: Table) -> Run {
     next
 }
 
-fn target(x: u32) -> u16 {
+// The lower 16 bits.
+fn short(x: u32) -> u16 {
     (x % 65536) as u16
 }
 
@@ -47,13 +49,33 @@ fn with_zero(run: Run, k: usize, cell: Cell) -> Run {
 fn with_cell(run: Run, command: [u8; 32]) -> Run {
     let at = command::index(command::low_half(command));
     let cell = Cell {
-        standing: standing(command[1], target(command::high_half(command))),
+        standing: standing(command[1], short(command::high_half(command))),
     };
     if PLACES <= at {
         return with_zero(run, at - PLACES, cell);
     }
     let mut next = run;
     next.cells[at] = cell;
+    next
+}
+
+fn slot(b: u8) -> usize {
+    b as usize
+}
+
+// The stored totals of a rule slot.
+fn with_totals(run: Run, command: [u8; 32]) -> Run {
+    let at = slot(command[1]);
+    if RULES <= at {
+        return run;
+    }
+    let mut next = run;
+    next.totals[at] = Totals {
+        activations: short(command::bits(command, 16)),
+        fulfilled: short(command::bits(command, 20)),
+        violated: short(command::bits(command, 24)),
+        open: short(command::bits(command, 28)),
+    };
     next
 }
 
@@ -81,6 +103,7 @@ pub fn changed(run: Run, command: [u8; 32]) -> Run {
             next
         },
         69 => with_event(run, command),
+        79 => with_totals(run, command),
         _ => with_cell(run, command),
     }
 }

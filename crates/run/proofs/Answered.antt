@@ -1,5 +1,5 @@
 -- What standing and totals answer for a valid run, and what an answer says of the record.
-use mathlib.Core.Path.{_≡_, refl, sym, _∙_}
+use mathlib.Core.Path.{_≡_, refl, sym, ap, _∙_}
 use mathlib.Core.Bool.{true, _&&_, _||_}
 use mathlib.Core.List.{List}
 use Prim.Native.Nat.{ℕ, zero, suc, _≤_, zero-le}
@@ -25,6 +25,7 @@ use Rattle.run.specs.Records.{eventsOf, standingAt, totalsIn, validEvent
 use Rattle.run.specs.Queries.{oneOf, isPosition, standingOf, totalsOf}
 use Rattle.run.proofs.Bounds.{valid-parts}
 use Rattle.run.proofs.Places.{overall-rule}
+use Rattle.run.proofs.Stored.{stored-is-counted}
 
 one-of-is : (n k : ℕ) → 1 ≤ k → k ≤ n → oneOf n k ≡ true
 one-of-is n k a b = both (le-leb 1 k a) (le-leb k n b)
@@ -32,7 +33,8 @@ one-of-is n k a b = both (le-leb 1 k a) (le-leb k n b)
 module _ (r : Run) (k : ℕ) where
   pub totals-found : validRun r ≡ true → 1 ≤ k → k ≤ r .table .count → totalsOf r k ≡ accepted (totalsIn r k)
   unfolding totalsOf
-  totals-found v a b = passed 11 _ v ∙ passed 10 _ (one-of-is (r .table .count) k a b)
+  totals-found v a b =
+      passed 11 _ v ∙ passed 10 _ (one-of-is (r .table .count) k a b) ∙ ap accepted (stored-is-counted r v k a b)
 
   module _ (i : ℕ) where
     pub standing-found : validRun r ≡ true → 1 ≤ k → k ≤ r .table .count → isPosition (r .table) (r .count) k i ≡ true → standingOf r k i ≡ accepted (standingAt r k i)

@@ -1,11 +1,11 @@
 -- Laws of the loops that check a record: one event more, the cells in flat order as rows, and how
 -- many events are judged under each rule.
 use mathlib.Core.Path.{_≡_, refl, sym, ap, ap₂, _∙_}
-use mathlib.Core.Bool.{Bool, true, false, cond, _&&_}
+use mathlib.Core.Bool.{Bool, true, false, cond, _&&_, true≢false}
 use mathlib.Core.List.{List}
-use Prim.Native.Nat.{ℕ, zero, suc, _+_, _-_, _*_, _/_, _%_, _≤_, _<_}
+use Prim.Native.Nat.{ℕ, zero, suc, _+_, _-_, _*_, _/_, _%_, _≤_, _<_, zero-le}
 use native.Mathlib.Omega.{arith}
-use borrow.Author.Tests.{le-leb, lt-leb, eqb-true, eqb-false}
+use borrow.Author.Tests.{le-leb, lt-leb, leb-true, eqb-true, eqb-false}
 use native.Mathlib.Numerals.{add-one}
 use lib.Dec.{leb, eqb}
 use lib.ListN.{length, getD, set, take, replicate, length-replicate, length-set}
@@ -14,6 +14,7 @@ use Rattle.declare.specs.declared.Event.{Event}
 use Rattle.declare.specs.declared.Rule.{Rule}
 use Rattle.declare.specs.declared.Table.{Table}
 use Rattle.declare.specs.declared.Standing.{Standing}
+use Rattle.declare.specs.Standings.{isIdle}
 use Rattle.declare.specs.Overall.{isOverall}
 use Rattle.declare.specs.Rules.{noRule, ruleAt, isOverallRule}
 use Rattle.declare.specs.Lists.{all, allBelow}
@@ -21,7 +22,7 @@ use Rattle.declare.specs.Events.{wellFormed, nonFallingFrom, nonFalling, lastFr
 use Rattle.standings.specs.declared.Cell.{Cell}
 use Rattle.standings.specs.Places.{idleCell, standingIn, overallIn}
 use Rattle.standings.proofs.Same.{standing-at}
-use Rattle.run.specs.Records.{validAt, validRow, eventsJudged, EventsJudged, validStandings}
+use Rattle.run.specs.Records.{validStanding, validAt, validRow, eventsJudged, EventsJudged, validStandings}
 use Rattle.run.proofs.Places.{standsAt}
 use Rattle.declare.proofs.Lists.{all-more, all-same, all-rows, falls-more, last-more}
 
@@ -55,6 +56,23 @@ followed-again {events} {n} f h e =
     regrouped true true c d = refl
 
 -- ---- rows
+
+-- no more events are judged than there are
+pub judged-most : (rule : Rule) (n : ℕ) → eventsJudged rule n ≤ n
+unfolding eventsJudged
+judged-most rule n = go (isOverall (rule .code))
+  where
+    go : (o : Bool) → cond o 0 n ≤ n
+    go true = zero-le
+    go false = omega arith
+
+-- what is not idle stands where it is judged
+pub stands-judged : (over : Bool) (n m i : ℕ) (s : Standing) → standsAt over n m i s ≡ true → isIdle s ≡ false → i ≤ m
+stands-judged over n m i s h active = go (leb i m) refl h
+  where
+    go : (b : Bool) → leb i m ≡ b → cond b (validStanding over n s) (isIdle s) ≡ true → i ≤ m
+    go true q h = leb-true i m q
+    go false q h = absurd (true≢false (sym h ∙ active))
 
 -- under a rule all events are judged, or none
 stands-valid : (closed : Bool) (r : Rule) (n p : ℕ) (s : Standing) → standsAt closed n (eventsJudged r n) (p + 1) s ≡ validAt closed (eventsJudged r n) (p + 1) s

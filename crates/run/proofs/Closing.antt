@@ -29,6 +29,7 @@ use Rattle.declare.proofs.Exactness.{verdict-is}
 use Rattle.declare.proofs.Steps.{closed-decided}
 use Rattle.standings.specs.declared.Cell.{Cell}
 use Rattle.standings.specs.Places.{idleCell, overallIn, overallCell, changedOverall, inUse, changedCell}
+use Rattle.standings.proofs.Places.{place-in-use}
 use Rattle.judge.specs.Cells.{judged, judgedAt, judgedOverall}
 use Rattle.run.specs.declared.Run.{Run}
 use Rattle.run.specs.Records.{eventsOf, validStanding, validZero, validOverall, validRun}
@@ -41,35 +42,34 @@ only-open Open h = refl
 only-open (Fulfilled j) h = absurd (false≢true h)
 only-open (Violated j) h = absurd (false≢true h)
 
-closed-open : (r : Rule) (es : List Event) (i : ℕ) (s : Standing) → 1 ≤ i → isOpen s ≡ true → closed r es i s ≡ decided (polarityOf r) 0
+-- an event's standing
+pub closed-event : (r : Rule) (es : List Event) (i : ℕ) (s : Standing) → 1 ≤ i → closed r es i s ≡ cond (isOpen s) (decided (polarityOf r) 0) s
 unfolding closed
-closed-open r es i s low h = rw (only-open s h) (closing-event r es i low)
+closed-event r es i Idle low = refl
+closed-event r es i Open low = closing-event r es i low
+closed-event r es i (Fulfilled j) low = refl
+closed-event r es i (Violated j) low = refl
 
 module _ (t : Table) (es : List Event) (count j : ℕ) (c : Cell) where
   pub cell-unused : inUse (t .count) count j ≡ false → changedCell (closedAt t es) (t .count) count j c ≡ c
   unfolding changedCell
   cell-unused u = rw u
 
-  pub cell-kept : isOpen (c .standing) ≡ false → changedCell (closedAt t es) (t .count) count j c ≡ c
+  pub cell-idle : c .standing ≡ Idle → changedCell (closedAt t es) (t .count) count j c ≡ c
   unfolding changedCell closedAt
-  cell-kept h = go (inUse (t .count) count j)
+  cell-idle h = go (inUse (t .count) count j)
     where
       go : (used : Bool) → cond used (record { standing = closed (ruleAt t (j / 256 + 1)) es (j % 256 + 1) (c .standing) }) c ≡ c
-      go true = ap (λ (s : Standing). record { standing = s }) (closed-decided (ruleAt t (j / 256 + 1)) es (j % 256 + 1) (c .standing) h)
+      go true =
+          ap (λ (s : Standing). record { standing = s }) (closed-decided (ruleAt t (j / 256 + 1)) es (j % 256 + 1) (c .standing) (ap isOpen h))
       go false = refl
 
-  pub cell-decided : j / 256 < t .count → isOpen (c .standing) ≡ true → {s : Standing} → s ≡ cond (ltb (j % 256) count) (decided (polarityOf (getD (t .rules) (j / 256) noRule)) 0) Open → record { standing = s } ≡ changedCell (closedAt t es) (t .count) count j c
-  unfolding changedCell closedAt inUse ruleAt
-  cell-decided a h {s} e =
+  pub cell-closed : j / 256 < t .count → j % 256 < count → {s : Standing} → s ≡ cond (isOpen (c .standing)) (decided (polarityOf (getD (t .rules) (j / 256) noRule)) 0) (c .standing) → record { standing = s } ≡ changedCell (closedAt t es) (t .count) count j c
+  unfolding changedCell closedAt ruleAt
+  cell-closed a b {s} e =
       let n : j / 256 + 1 - 1 ≡ j / 256 = omega arith in
-      rw (lt-ltb (j / 256) (t .count) a, n, e) (go (ltb (j % 256) count))
-    where
-      rule : Rule
-      rule = getD (t .rules) (j / 256) noRule
-
-      go : (used : Bool) → record { standing = cond used (decided (polarityOf rule) 0) Open } ≡ cond used (record { standing = closed rule es (j % 256 + 1) (c .standing) }) c
-      go true = ap (λ (x : Standing). record { standing = x }) (sym (closed-open rule es (j % 256 + 1) (c .standing) (omega arith) h))
-      go false = ap (λ (x : Standing). record { standing = x }) (sym (only-open (c .standing) h))
+      rw (place-in-use (t .count) count j a b, n, e)
+      (ap (λ (x : Standing). record { standing = x }) (sym (closed-event (getD (t .rules) (j / 256) noRule) es (j % 256 + 1) (c .standing) (omega arith))))
 
 -- ---- position 0
 

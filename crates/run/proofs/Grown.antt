@@ -33,17 +33,19 @@ use Rattle.declare.proofs.Tables.{rules-within}
 use Rattle.declare.proofs.Steps.{taken-cycle}
 use Rattle.standings.specs.declared.Cell.{Cell}
 use Rattle.standings.specs.Places.{places, idleCell, idleCells, idleOverall, overallIn, zeroIn, withZero, inUse}
+use Rattle.standings.specs.Totals.{noTotals}
 use Rattle.standings.proofs.Places.{from-one}
 use Rattle.standings.proofs.Changes.{changed-length, changed-kept, idle-everywhere, overall-length, overall-kept}
 use Rattle.standings.proofs.Same.{same-cells, same-overall}
 use Rattle.judge.specs.Cells.{judged, judgedAt, judgedCells, judgedOverall}
 use Rattle.run.specs.declared.Run.{Run}
-use Rattle.run.specs.Records.{eventsOf, standingAt, withEvents, withStandings, asClosed, validRun}
-use Rattle.run.specs.Start.{newRun}
+use Rattle.run.specs.Records.{eventsOf, standingAt, storedTotals, withEvents, withStandings, asClosed, withTotals, counted, validRun}
+use Rattle.run.specs.Start.{idleRun}
 use Rattle.run.specs.Close.{closedRun, finishedRun}
 use Rattle.run.specs.Takes.{grown, RunOf, finished}
 use Rattle.run.specs.Words.{Placed}
 use Rattle.run.proofs.Places.{overall-rule, zero-overall, overall-idle, change-at, change-past, change-none}
+use Rattle.run.proofs.Stored.{counted-length, counted-kept, stored-recounted}
 use Rattle.run.proofs.Takes.{takes}
 
 -- ---- the events of a finished cycle, and its cells: one in use has the verdict, every other is
@@ -79,6 +81,15 @@ module _ (t : Table) (es : List Event) where
   unfolding finishedRun judgedOverall
   finished-overall = overall-length _ _ idleOverall ∙ length-replicate mostRules idleCell
 
+  pub finished-totals : length (finishedRun t (length es) (eventSlots es) .totals) ≡ mostRules
+  unfolding idleRun finishedRun
+  finished-totals = counted-length _ ∙ length-replicate mostRules noTotals
+
+  pub finished-unused : (k : ℕ) → t .count < k → k ≤ mostRules → storedTotals (finishedRun t (length es) (eventSlots es)) k ≡ noTotals
+  unfolding idleRun finishedRun
+  finished-unused k a b =
+      counted-kept _ k (omega arith) (omega (arith, length-replicate mostRules noTotals, b)) a ∙ replicated mostRules (k - 1) noTotals
+
   pub finished-unread : (k : ℕ) → 1 ≤ k → k ≤ mostRules → isOverallRule t k ≡ false → getD finishedOverall (k - 1) idleCell ≡ idleCell
   unfolding finishedRun judgedOverall
   finished-unread k low high o =
@@ -87,10 +98,10 @@ module _ (t : Table) (es : List Event) where
 
   -- all idle before they are judged
   abbrev before : Run
-  before = withStandings (withEvents (newRun t) (length es) (eventSlots es)) idleCells idleOverall
+  before = withEvents (idleRun t) (length es) (eventSlots es)
 
   before-idle : (k i : ℕ) → standingAt before k i ≡ Idle
-  unfolding withZero zeroIn newRun
+  unfolding withZero zeroIn idleRun
   before-idle k zero = go (isOverallRule t k)
     where
       go : (o : Bool) → cond o (overallIn idleOverall k) Idle ≡ Idle
@@ -99,7 +110,7 @@ module _ (t : Table) (es : List Event) where
   before-idle k (suc i) = idle-everywhere places k (suc i)
 
   pub finished-verdict : (k i : ℕ) → Placed k i → k ≤ t .count → i ≤ length es → standingAt (finishedRun t (length es) (eventSlots es)) k i ≡ verdict (ruleAt t k) es i
-  unfolding newRun finishedRun judgedCells judgedOverall judgedAt judged carried
+  unfolding idleRun finishedRun judgedCells judgedOverall judgedAt judged carried
   finished-verdict k i p a b =
       change-at before (judgedAt false t (take (length es) (eventSlots es)) 0) size (length-replicate mostRules idleCell) k (p .0) (p .1) idle i a b (p .2)
       ∙ ap (λ (s : Standing). carried s (verdict (ruleAt t k) (take (length es) (eventSlots es)) i)) (before-idle k i)
@@ -110,7 +121,7 @@ module _ (t : Table) (es : List Event) where
 
   -- past the events and the rules all is idle
   pub finished-rest : (k i : ℕ) → 1 ≤ k → k ≤ mostRules → i ≤ mostEvents → ((t .count < k) ⊎ (length es < i)) → standingAt (finishedRun t (length es) (eventSlots es)) k i ≡ Idle
-  unfolding newRun finishedRun judgedCells judgedOverall
+  unfolding idleRun finishedRun judgedCells judgedOverall
   finished-rest k i a b c u =
       ⊎-elim
       (λ l. change-none before (judgedAt false t (take (length es) (eventSlots es)) 0) size (length-replicate mostRules idleCell) k a b i l c)
@@ -149,21 +160,22 @@ module _ (t : Table) (slots : length (t .rules) ≡ mostRules) (valid : validTab
       same-overall (isOverallRule t) (finishedOverall t es) (closedRun (grown t es) .overall) (finished-overall t es) (closed .overall) (finished-unread t es) (closed .others)
       (λ k a b o.
       let c : k ≤ t .count = rule-within t k o in
-      sym (zero-overall (finishedRun t (length es) (eventSlots es)) k (unfold newRun finishedRun in o)) ∙ alike k 0 a c zero-le ∙ zero-overall (closedRun (grown t es)) k (rw (closed .table) o))
+      sym (zero-overall (finishedRun t (length es) (eventSlots es)) k (unfold idleRun finishedRun in o)) ∙ alike k 0 a c zero-le ∙ zero-overall (closedRun (grown t es)) k (rw (closed .table) o))
 
   pub finished-is-grown : finishedRun t (length es) (eventSlots es) ≡ closedRun (grown t es)
-  unfolding newRun finishedRun closedRun
+  unfolding idleRun finishedRun closedRun
   finished-is-grown =
       ap₂ (run t (length es) (eventSlots es)) same same-zero
       ∙ ap (λ (l : List Event). run t (length es) l (next .cells) (next .overall)) (sym (closed .events))
       ∙ ap (λ (n : ℕ). run t n (next .events) (next .cells) (next .overall)) (sym (closed .count))
       ∙ ap (λ (u : Table). run u (next .count) (next .events) (next .cells) (next .overall)) (sym (closed .table))
+      ∙ ap (withTotals next) (sym (stored-recounted next (closed .valid) (closed .totals) (λ k a b. closed .unused k (rw (closed .table) at a) b)))
     where
       next : Run
       next = closedRun (grown t es)
 
       run : Table → ℕ → List Event → List Cell → List Cell → Run
-      run u n l cells overall = asClosed (withStandings (withEvents (newRun u) n l) cells overall)
+      run u n l cells overall = counted (asClosed (withStandings (withEvents (idleRun u) n l) cells overall))
 
   pub finished-valid : validRun (finishedRun t (length es) (eventSlots es)) ≡ true
   finished-valid = ap validRun finished-is-grown ∙ closed .valid

@@ -15,7 +15,7 @@ use Rattle.declare.specs.Continuations.{horizon}
 use Rattle.standings.specs.declared.Cell.{Cell}
 use Rattle.judge.specs.Cells.{judgedCells, judgedOverall}
 use Rattle.run.specs.declared.Run.{Run}
-use Rattle.run.specs.Records.{eventsOf, horizonOf, withStandings}
+use Rattle.run.specs.Records.{eventsOf, horizonOf, withStandings, counted}
 use Rattle.run.specs.Take.{appended, judgedRun}
 use Rattle.declare.proofs.Lists.{last-more}
 
@@ -52,8 +52,8 @@ module _ (r : Run) (e : Event) where
     horizon-appended = ap lastTime events-appended ∙ last-more (eventsOf r) e
 
     -- judged with the event's time as the horizon
-    pub judged-appended : {cells overall : List Cell} → cells ≡ judgedCells true (r .table) (set (r .events) (r .count) e) (r .count + 1) (e .time) (r .cells) → overall ≡ judgedOverall true (r .table) (set (r .events) (r .count) e) (r .count + 1) (e .time) (r .overall) → withStandings (appended r e) cells overall ≡ judgedRun (appended r e)
+    pub judged-appended : {cells overall : List Cell} → cells ≡ judgedCells true (r .table) (set (r .events) (r .count) e) (r .count + 1) (e .time) (r .cells) → overall ≡ judgedOverall true (r .table) (set (r .events) (r .count) e) (r .count + 1) (e .time) (r .overall) → counted (withStandings (appended r e) cells overall) ≡ judgedRun (appended r e)
     unfolding judgedRun appended
     judged-appended g h =
-        ap₂ (withStandings (appended r e)) (g ∙ ap (λ (t : ℕ). judgedCells true (r .table) (set (r .events) (r .count) e) (r .count + 1) t (r .cells)) (sym horizon-appended))
+        ap₂ (λ (x y : List Cell). counted (withStandings (appended r e) x y)) (g ∙ ap (λ (t : ℕ). judgedCells true (r .table) (set (r .events) (r .count) e) (r .count + 1) t (r .cells)) (sym horizon-appended))
         (h ∙ ap (λ (t : ℕ). judgedOverall true (r .table) (set (r .events) (r .count) e) (r .count + 1) t (r .overall)) (sym horizon-appended))

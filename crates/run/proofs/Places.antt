@@ -30,7 +30,7 @@ use Rattle.standings.proofs.Changes.{idle-everywhere, changed-length, changed-s
 use Rattle.judge.specs.Cells.{judged, judgedAt, judgedCells, judgedOverall}
 use Rattle.run.specs.declared.Run.{Run}
 use Rattle.run.specs.Records.{eventsOf, horizonOf, standingAt, withStandings, validStanding, validAt, validRow, eventsJudged, validStandings, validZero, validOverall, Sized}
-use Rattle.run.specs.Start.{newRun}
+use Rattle.run.specs.Start.{idleRun, newRun}
 use Rattle.run.specs.Take.{judgedRun}
 use Rattle.run.specs.Close.{closedAt, closedCells, closedOverall, closedRun}
 
@@ -61,7 +61,7 @@ unfolding overallIn
 overall-idle k = ap (λ (c : Cell). c .standing) (replicated mostRules (k - 1) idleCell)
 
 pub start-idle : (t : Table) (k i : ℕ) → 1 ≤ i → standingAt (newRun t) k i ≡ Idle
-unfolding newRun
+unfolding newRun idleRun
 start-idle t k i low = from-one _ _ i low ∙ idle-everywhere places k i
 
 -- a rule about the cycle is judged with no events
@@ -73,12 +73,12 @@ start-zero t k low a high = go (isOverallRule t k) refl
 
     go : (o : Bool) → isOverallRule t k ≡ o → standingAt (newRun t) k 0 ≡ standing (ruleAt t k) [] 0 0
     go true q =
-        unfold newRun judgedOverall judgedAt judged carried in
+        unfold newRun idleRun judgedOverall judgedAt judged carried in
         (zero-overall (newRun t) k q
         ∙ overall-changed (isOverallRule t) (judgedAt true t [] 0) idleOverall k low slots q
         ∙ ap (λ (s : Standing). carried s (standing (ruleAt t k) [] 0 0)) (overall-idle k))
     go false q =
-        unfold newRun in zero-other (newRun t) k q
+        unfold newRun idleRun in zero-other (newRun t) k q
         ∙ sym (idle-elsewhere (ruleAt t k) [] 0 0 .1 (activation-zero (ruleAt t k) [] ∙ sym (overall-rule t k a) ∙ q))
 
 pub start-unread : (t : Table) (k : ℕ) → 1 ≤ k → k ≤ mostRules → isOverallRule t k ≡ false → getD (newRun t .overall) (k - 1) idleCell ≡ idleCell

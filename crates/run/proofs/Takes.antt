@@ -33,22 +33,23 @@ use Rattle.declare.specs.Steps.{carried, closed, Cycle, admits, isTaken, takenA
 use Rattle.declare.proofs.Zero.{activation-zero, activation-event}
 use Rattle.declare.proofs.Answers.{passed, accepted-then, after-then}
 use Rattle.declare.proofs.Steps.{empty-cycle, cycle-taken, taken-parts, taken-continues, carried-standing, closed-decided, closed-is-verdict, cycle-of-taken}
-use Rattle.declare.proofs.Lists.{last-more}
+use Rattle.declare.proofs.Lists.{last-more, replicated}
 use Rattle.declare.proofs.Tables.{rules-within, rule-valid}
 use Rattle.declare.proofs.Exactness.{verdict-active, standing-active}
 use Rattle.standings.specs.Places.{places, idleCell, placeOf, inUse}
-use Rattle.standings.specs.Totals.{totalsBy}
+use Rattle.standings.specs.Totals.{totalsBy, noTotals}
 use Rattle.standings.proofs.Places.{in-use, in-use-fewer, from-one}
 use Rattle.standings.proofs.Changes.{idle-standing}
 use Rattle.standings.proofs.Counts.{totals-same, totals-sum, totals-activations}
 use Rattle.run.specs.declared.Run.{Run}
 use Rattle.run.specs.Records.{eventsOf, horizonOf, standingAt, totalsIn, validRun, Sized}
-use Rattle.run.specs.Start.{newRun, startOf, started}
+use Rattle.run.specs.Start.{idleRun, newRun, startOf, started}
 use Rattle.run.specs.Take.{appended, judgedRun, takeOf}
 use Rattle.run.specs.Close.{closedRun, closeOf}
 use Rattle.run.specs.Takes.{afterTakes, grown, RunOf, Fits, Answers, running, finished, takeAfter, EveryTakes}
 use Rattle.run.proofs.Horizons.{events-appended}
 use Rattle.run.proofs.Guards.{take-by}
+use Rattle.run.proofs.Stored.{counted-length, counted-kept}
 use Rattle.run.proofs.Answered.{standing-found, totals-found, position-within}
 use Rattle.run.proofs.Places.{start-zero, start-unread, start-overall, judged-length, closed-length, judged-overall, closed-overall, judged-standing, judged-kept, judged-unread, closed-standing, closed-kept, closed-unread}
 use Rattle.run.proofs.Validity.{start-valid, taken-run-valid, closed-run-valid}
@@ -56,7 +57,7 @@ use Rattle.run.proofs.Validity.{start-valid, taken-run-valid, closed-ru
 -- ---- start
 
 run-started : (t : Table) → validTable t ≡ true → RunOf t [] false (running t []) (newRun t)
-unfolding newRun padded horizon lastTime lastFrom
+unfolding newRun idleRun padded horizon lastTime lastFrom
 run-started t v =
     record {
       valid = start-valid t v;
@@ -69,6 +70,8 @@ run-started t v =
       standings = at;
       idle = λ j l u. getD-replicate places j idleCell idleCell l;
       others = start-unread t;
+      totals = counted-length _ ∙ length-replicate mostRules noTotals;
+      unused = λ k a b. counted-kept _ k (omega arith) (omega (arith, length-replicate mostRules noTotals, b)) a ∙ replicated mostRules (k - 1) noTotals;
     }
   where
     at : (k i : ℕ) → 1 ≤ k → k ≤ t .count → i ≤ 0 → standingAt (newRun t) k i ≡ standing (ruleAt t k) [] 0 i
@@ -112,6 +115,7 @@ module _ (t : Table) (slots : length (t .rules) ≡ mostRules) (v : validTable t
         events = ap length (g .events) ∙ unfold padded in simp (length-append, length-replicate) (let n = few in omega arith);
         cells = g .cells;
         overall = g .overall;
+        totals = g .totals;
       }
 
   events-are : (over : Bool) (stands : ℕ → ℕ → Standing) (r : Run) → RunOf t es over stands r → eventsOf r ≡ es
@@ -179,7 +183,7 @@ module _ (t : Table) (slots : length (t .rules) ≡ mostRules) (v : validTable t
       unfolding appended
       next-size =
           let z = sized false (running t es) r g in
-          record { rules = z .rules; events = length-set (r .events) (r .count) e ∙ z .events; cells = z .cells; overall = z .overall }
+          record { rules = z .rules; events = length-set (r .events) (r .count) e ∙ z .events; cells = z .cells; overall = z .overall; totals = z .totals }
 
       standings-taken : (k i : ℕ) → 1 ≤ k → k ≤ t .count → i ≤ length (es ++ e ∷ []) → standingAt (judgedRun (appended r e)) k i ≡ running t (es ++ e ∷ []) k i
       standings-taken k i a b d =
@@ -213,6 +217,8 @@ module _ (t : Table) (slots : length (t .rules) ≡ mostRules) (v : validTable t
             standings = standings-taken;
             idle = idle-taken;
             others = λ k a b o. judged-unread (appended r e) next-size k a b (rw (g .table) o) ∙ g .others k a b o;
+            totals = counted-length _ ∙ g .totals;
+            unused = λ k a b. counted-kept _ k (omega arith) (omega (arith, g .totals, b)) (rw (g .table) a) ∙ g .unused k a b;
           }
 
     -- taken or not
@@ -280,6 +286,8 @@ module _ (t : Table) (slots : length (t .rules) ≡ mostRules) (v : validTable t
         standings = standings-closed;
         idle = idle-closed;
         others = λ k a b o. closed-unread r size k a b (rw (g .table) o) ∙ g .others k a b o;
+        totals = counted-length _ ∙ g .totals;
+        unused = λ k a b. counted-kept _ k (omega arith) (omega (arith, g .totals, b)) (rw (g .table) a) ∙ g .unused k a b;
       }
 
 -- ---- standing and totals

@@ -6,11 +6,12 @@
 use mathlib.Core.Path.{_≡_, refl, sym, ap, subst, _∙_}
 use mathlib.Core.Bool.{Bool, true, false, not, cond, _||_, true≢false, false≢true}
 use mathlib.Core.List.{List, [], _∷_}
-use Prim.Native.Nat.{ℕ, zero, suc, _+_, _≤_, _<_, zero-le}
+use Prim.Native.Nat.{ℕ, zero, suc, _+_, _/_, _%_, _≤_, _<_, zero-le}
+use native.Mathlib.Numerals.{add-one}
 use native.Mathlib.Omega.{arith}
 use borrow.Author.Tests.{le-leb, lt-leb, leb-true, leb-false, ltb-true, not-true}
 use lib.Dec.{leb, eqb}
-use lib.ListN.{length, take, set, length-set}
+use lib.ListN.{length, take, set, length-set, length-replicate}
 use lib.Seq.{length-take-le}
 use Rattle.declare.specs.Standings.{isIdle}
 use Rattle.declare.specs.declared.Event.{Event}
@@ -42,14 +43,19 @@ use Rattle.declare.proofs.Tables.{rules-within}
 use Rattle.declare.proofs.Lists.{all-parts, falls-more}
 use Rattle.declare.proofs.Answers.{required, of-of, after-cases}
 use Rattle.declare.proofs.Steps.{admitted, closed-decided}
+use Rattle.standings.specs.Places.{standingIn, withZero}
+use Rattle.standings.specs.Totals.{noTotals}
+use Rattle.standings.proofs.Same.{standing-at}
 use Rattle.run.specs.declared.Run.{Run}
 use Rattle.run.specs.Records.{eventsOf, horizonOf, standingAt, validEvents, validStanding, validAt, eventsJudged, validZero, validRun, Sized}
-use Rattle.run.specs.Start.{newRun, startOf, started}
+use Rattle.run.specs.Start.{idleRun, newRun, startOf, started}
 use Rattle.run.specs.Take.{appended, judgedRun, takeOf}
-use Rattle.run.specs.Close.{closedRun, closeOf}
+use Rattle.run.specs.Close.{IdlePast, closedRun, closeOf}
 use Rattle.run.proofs.Bounds.{Valid, valid-parts}
+use Rattle.run.proofs.Checks.{judged-most}
 use Rattle.run.proofs.Horizons.{events-appended}
 use Rattle.run.proofs.Guards.{take-cases, close-cases}
+use Rattle.run.proofs.Stored.{counted-valid}
 use Rattle.run.proofs.Places.{start-idle, start-zero, judged-standing, judged-past, closed-standing, closed-past, validHere, idle-anywhere, standings-each, each-standings}
 
 -- ---- standings
@@ -227,6 +233,19 @@ module _ (r : Rule) where
       go true q = idle-here next n i s (here-idle over m i s q v)
       go false q = idle-here next n i s (at-idle over m (suc i) s a (sym (here-event over m i s q) ∙ v))
 
+-- past the events of a valid record all is idle
+pub past-idle : (r : Run) → validRun r ≡ true → IdlePast (r .table) (r .count) (r .cells)
+past-idle r v j low past =
+    let p = valid-parts r v in
+    let k : ℕ = j / mostEvents + 1 in
+    let n : ℕ = eventsJudged (ruleAt (r .table) k) (r .count) in
+    let s : Standing = standingIn (r .cells) k (suc (j % mostEvents)) in
+    let h : validAt (r .closed) n (suc (j % mostEvents)) s ≡ true = unfold withZero in standings-each (r .closed) r (p .standings) (p .overall) k (suc (j % mostEvents)) (omega arith) (omega arith) (omega arith) in
+    let l : n < suc (j % mostEvents) = omega (arith, past, judged-most (ruleAt (r .table) k) (r .count)) in
+    sym (standing-at (r .cells) j)
+    ∙ ap (standingIn (r .cells) k) (add-one (j % mostEvents))
+    ∙ only-idle s (at-idle (r .closed) n (suc (j % mostEvents)) s l h)
+
 -- ---- start
 
 no-events : (slots : List Event) → validEvents 0 slots ≡ true
@@ -234,10 +253,11 @@ unfolding validEvents all nonFalling nonFallingFrom
 no-events slots = refl
 
 pub start-valid : (t : Table) → validTable t ≡ true → validRun (newRun t) ≡ true
-unfolding newRun validRun
+unfolding newRun idleRun validRun
 start-valid t v =
     let p = each-standings false (newRun t) here in
-    both₄ v (no-events (eventSlots [])) (p .0) (p .1)
+    both (both₄ v (no-events (eventSlots [])) (p .0) (p .1))
+    (counted-valid _ (length-replicate mostRules noTotals) (rules-within t v) zero-le)
   where
     here : (k i : ℕ) → 1 ≤ k → k ≤ t .count → i ≤ 256 → validHere false (ruleAt t k) 0 i (standingAt (newRun t) k i) ≡ true
     here k zero a b d =
@@ -307,7 +327,7 @@ module _ (r : Run) (size : Sized r) (valid : validRun r ≡ true) where
         next = appended r e
 
         next-size : Sized next
-        next-size = record { rules = size .rules; events = length-set (r .events) (r .count) e ∙ size .events; cells = size .cells; overall = size .overall }
+        next-size = record { rules = size .rules; events = length-set (r .events) (r .count) e ∙ size .events; cells = size .cells; overall = size .overall; totals = size .totals }
 
         longer : length (eventsOf next) ≡ r .count + 1
         longer = unfold eventsOf in length-take-le (r .count + 1) (set (r .events) (r .count) e) (simp length-set (omega (arith, size .events)))
@@ -325,7 +345,8 @@ module _ (r : Run) (size : Sized r) (valid : validRun r ≡ true) where
   pub closed-run-valid : validRun (closedRun r) ≡ true
   closed-run-valid =
       let p = each-standings true (closedRun r) (λ k i a b d. unfold closedRun rule in closed-at k i a b d) in
-      unfold closedRun validRun in both₄ (v .table) (v .events) (p .0) (p .1)
+      unfold closedRun validRun in
+      both (both₄ (v .table) (v .events) (p .0) (p .1)) (counted-valid _ (size .totals) (v .rules-fit) (v .events-fit))
 
   pub close-valid : validRun (afterCall r (closeOf r)) ≡ true
   close-valid = close-cases (λ s. validRun s ≡ true) r valid closed-run-valid
@@ -347,7 +368,8 @@ module _ (r : Run) (size : Sized r) (valid : validRun r ≡ true) where
         let p = admitted (r .count) (horizonOf r) e a in
         let room : r .count < mostEvents = ltb-true (r .count) mostEvents (p .2) in
         let q = each-standings (r .closed) (judgedRun (appended r e)) (λ k i a b d. unfold rule in judged-at k i a b d e runs room) in
-        both₄ (v .table) (events-valid (p .0) (p .1) room) (q .0) (q .1)
+        both (both₄ (v .table) (events-valid (p .0) (p .1) room) (q .0) (q .1))
+        (counted-valid _ (size .totals) (v .rules-fit) (omega arith))
 
     pub take-valid : validRun (afterCall r (takeOf r e)) ≡ true
     take-valid = take-cases (λ s. validRun s ≡ true) r e valid taken-run-valid

@@ -29,22 +29,24 @@ use Rattle.declare.specs.Standings.{isIdle, isOpen}
 use Rattle.declare.specs.Answers.{_>>_, require, afterCall}
 use Rattle.declare.specs.Steps.{carried, closed}
 use Rattle.declare.specs.Words.{NeverFall}
-use Rattle.declare.proofs.Booleans.{both₃, both₄, and₃}
+use Rattle.declare.proofs.Booleans.{both, both₃, both₄, and₃}
 use Rattle.declare.proofs.Zero.{not-overall, activation-zero, closing-zero, closing-event}
 use Rattle.declare.proofs.Exactness.{verdict-is}
 use Rattle.declare.proofs.Steps.{closed-decided}
 use Rattle.declare.proofs.Words.{positive, negative, words as verdict-words}
-use Rattle.declare.proofs.Lists.{all-taken, all-each, each-all}
+use Rattle.declare.proofs.Lists.{all-taken, all-each, each-all, replicated}
 use Rattle.standings.specs.Places.{places, idleCell}
+use Rattle.standings.specs.Totals.{noTotals}
 use Rattle.run.specs.declared.Run.{Run}
-use Rattle.run.specs.Records.{eventsOf, standingAt, validEvents, validStanding, validAt, validRun, Sized}
-use Rattle.run.specs.Start.{newRun, startOf, started}
+use Rattle.run.specs.Records.{eventsOf, standingAt, storedTotals, validEvents, validStanding, validAt, validRun, Sized}
+use Rattle.run.specs.Start.{idleRun, newRun, startOf, started}
 use Rattle.run.specs.Take.{appended, judgedRun}
 use Rattle.run.specs.Close.{closedRun, finishedRun}
-use Rattle.run.specs.Words.{Events, MayStand, Valid, Placed, unread, Unread, Starts, NoRules, Appends, InUse, NotInUse, standingNow, KeepsRest, Judges, codeAt, Closes, Finishes, Words}
+use Rattle.run.specs.Words.{Events, MayStand, Valid, Placed, unread, Unread, Unused, Starts, NoRules, Appends, InUse, NotInUse, standingNow, KeepsRest, Judges, codeAt, Closes, Finishes, Words}
 use Rattle.run.proofs.Bounds.{valid-parts}
 use Rattle.run.proofs.Places.{overall-rule, zero-other, start-idle, start-zero, start-unread, start-overall, judged-length, closed-length, judged-overall, closed-overall, judged-standing, judged-past, judged-none, judged-unread, closed-standing, closed-past, closed-none, closed-unread, validHere, standings-each, each-standings}
-use Rattle.run.proofs.Grown.{finished-length, finished-overall, finished-unread, finished-verdict, finished-rest}
+use Rattle.run.proofs.Stored.{stored-is-counted, stored-valid, counted-length, counted-kept}
+use Rattle.run.proofs.Grown.{finished-length, finished-overall, finished-totals, finished-unused, finished-unread, finished-verdict, finished-rest}
 use Rattle.run.proofs.Validity.{idle-valid, at-valid, at-idle, taken-valid, past-valid, here-judged, here-idle, here-event, idle-here, zero-here, zero-valid, not-idle, started-valid, take-valid, close-valid}
 
 -- ---- the events of a record
@@ -161,6 +163,7 @@ valid→ r size v =
       formed = formed→ (r .events) (r .count) room (e .1);
       order = order→ (r .events) (r .count) room (e .2);
       standings = λ k i a b d. may→ (r .closed) (ruleAt (r .table) k) (r .count) i (standingAt r k i) (standings-each (r .closed) r (p .standings) (p .overall) k i a b d) (λ z o. ap isIdle (ap (standingAt r k) z ∙ zero-other r k (overall-rule (r .table) k b ∙ o)));
+      totals = stored-is-counted r v;
     }
 
 valid← : (r : Run) → Sized r → Valid r → validRun r ≡ true
@@ -168,14 +171,16 @@ unfolding validRun validEvents
 valid← r size v =
     let room : r .count ≤ length (r .events) = omega (arith, v .most, size .events) in
     let p = each-standings (r .closed) r (λ k i a b d. may← (r .closed) (ruleAt (r .table) k) (r .count) i (standingAt r k i) (v .standings k i a b d)) in
-    both₄ (v .table)
+    both
+    (both₄ (v .table)
     (both₃ (le-leb (r .count) mostEvents (v .most)) (formed← (r .events) (r .count) room (v .formed)) (order← (r .events) (r .count) room (v .order)))
-    (p .0) (p .1)
+    (p .0) (p .1))
+    (stored-valid r (v .totals))
 
 -- ---- start
 
 new-starts : (t : Table) → Starts t (newRun t)
-unfolding newRun padded eventAt emptySlot
+unfolding newRun idleRun padded eventAt emptySlot
 new-starts t =
     record {
       phase = refl;
@@ -188,6 +193,8 @@ new-starts t =
       standings = λ k i p l. start-idle t k i l;
       judged = start-zero t;
       others = λ k u. start-unread t k (u .0) (u .1) (u .2);
+      totals = counted-length _ ∙ length-replicate mostRules noTotals;
+      unused = λ k u. counted-kept _ k (omega arith) (omega (arith, length-replicate mostRules noTotals, u .1)) (u .0) ∙ replicated mostRules (k - 1) noTotals;
     }
 
 starts : (t : Table) → validTable t ≡ true → Starts t (started t)
@@ -224,6 +231,7 @@ module _ (r : Run) (size : Sized r) where
         others = λ i a n. getD-set-other (r .events) (r .count) (i - 1) e noEvent (λ q. n (omega arith));
         cells = refl;
         overall = refl;
+        totals = refl;
       }
 
   module _ (k i : ℕ) where
@@ -273,16 +281,16 @@ module _ (r : Run) (size : Sized r) where
         go false b a c = closed-rest (p, inl (leb-false k (r .table .count) a))
 
   -- the arrays, and what else stays
-  keeps : (next : Run) → next .table ≡ r .table → next .count ≡ r .count → next .events ≡ r .events → length (next .cells) ≡ length (r .cells) → length (next .overall) ≡ length (r .overall) → ((k i : ℕ) → NotInUse r k i → standingAt next k i ≡ standingAt r k i) → ((k : ℕ) → Unread r k → unread next k ≡ unread r k) → KeepsRest r next
-  keeps next t n es l m f g =
-      record { table = t; count = n; events = es; cells = l ∙ size .cells; overall = m ∙ size .overall; standings = f; others = g }
+  keeps : (next : Run) → next .table ≡ r .table → next .count ≡ r .count → next .events ≡ r .events → length (next .cells) ≡ length (r .cells) → length (next .overall) ≡ length (r .overall) → ((k i : ℕ) → NotInUse r k i → standingAt next k i ≡ standingAt r k i) → ((k : ℕ) → Unread r k → unread next k ≡ unread r k) → length (next .totals) ≡ length (r .totals) → ((k : ℕ) → Unused r k → storedTotals next k ≡ storedTotals r k) → KeepsRest r next
+  keeps next t n es l m f g s u =
+      record { table = t; count = n; events = es; cells = l ∙ size .cells; overall = m ∙ size .overall; standings = f; others = g; totals = s ∙ size .totals; unused = u }
 
   judges : Judges r (judgedRun r)
   unfolding judgedRun carried
   judges =
       record {
         phase = refl;
-        rest = keeps (judgedRun r) refl refl refl (judged-length r) (judged-overall r) judged-rest (λ k u. judged-unread r size k (u .0) (u .1) (u .2));
+        rest = keeps (judgedRun r) refl refl refl (judged-length r) (judged-overall r) judged-rest (λ k u. judged-unread r size k (u .0) (u .1) (u .2)) (counted-length _) (λ k u. counted-kept _ k (omega arith) (omega (arith, size .totals, u .1)) (u .0));
         fulfilled = λ k i j u e. judged-from k i u e;
         violated = λ k i j u e. judged-from k i u e;
         «open» = λ k i u e. judged-from k i u e;
@@ -308,7 +316,7 @@ module _ (r : Run) (size : Sized r) where
   closes =
       record {
         phase = refl;
-        rest = keeps (closedRun r) refl refl refl (closed-length r) (closed-overall r) closed-rest (λ k u. closed-unread r size k (u .0) (u .1) (u .2));
+        rest = keeps (closedRun r) refl refl refl (closed-length r) (closed-overall r) closed-rest (λ k u. closed-unread r size k (u .0) (u .1) (u .2)) (counted-length _) (λ k u. counted-kept _ k (omega arith) (omega (arith, size .totals, u .1)) (u .0));
         violated = λ k i u o a b. closed-open k i u o (omega arith) (positive (codeAt r k) a b);
         fulfilled = λ k i u o a b. closed-open k i u o b (negative (codeAt r k) a b);
         overall = closed-zero;
@@ -318,7 +326,7 @@ module _ (r : Run) (size : Sized r) where
 -- ---- a finished cycle
 
 finishes : (t : Table) (es : List Event) → Finishes t es (finishedRun t (length es) (eventSlots es))
-unfolding newRun finishedRun
+unfolding idleRun finishedRun
 finishes t es =
     record {
       phase = refl;
@@ -330,6 +338,8 @@ finishes t es =
       verdicts = λ k i u. finished-verdict t es k i (u .0) (u .1) (u .2);
       others = λ k i u. finished-rest t es k i (u .0 .0) (u .0 .1) (u .0 .2) (u .1);
       unread-idle = λ k u. finished-unread t es k (u .0) (u .1) (u .2);
+      totals = finished-totals t es;
+      unused = λ k u. finished-unused t es k (u .0) (u .1);
     }
 
 pub words : Words

@@ -15,9 +15,9 @@ use Rattle.declare.specs.Slots.{eventSlots, tableOf}
 use Rattle.declare.specs.EdgeCycles.{always, window, rule, event}
 use Rattle.standings.specs.declared.Cell.{Cell}
 use Rattle.standings.specs.declared.totals.Totals.{Totals}
-use Rattle.standings.specs.Totals.{totalsBy}
+use Rattle.standings.specs.Totals.{totalsBy, idleTotals}
 use Rattle.run.specs.declared.Run.{Run}
-use Rattle.run.specs.Records.{standingAt, totalsIn, validRun}
+use Rattle.run.specs.Records.{standingAt, totalsIn, storedTotals, withTotals, counted, validRun}
 use Rattle.run.specs.Start.{started}
 use Rattle.run.specs.Take.{judgedRun}
 use Rattle.run.specs.Close.{closedRun, finishedRun}
@@ -45,17 +45,19 @@ abbrev pub cellsOf : List Standing → List Cell
 cellsOf standings = map (λ (s : Standing). record { standing = s }) standings
 
 -- a record of the first k of these rules and the first n of these events; its first cells, and its
--- cells of position 0, have these standings, and it has no others
+-- cells of position 0, have these standings, and it has no others; its totals are theirs
 abbrev pub recordWith : Bool → List Rule → ℕ → List Event → ℕ → List Standing → List Standing → Run
 recordWith closed rules k events n standings zeros =
-    record {
+    counted
+    (record {
       closed = closed;
       table = record { count = k; rules = rules };
       count = n;
       events = events;
       cells = cellsOf standings;
       overall = cellsOf zeros;
-    }
+      totals = idleTotals;
+    })
 
 abbrev pub recordOf : Bool → List Rule → ℕ → List Event → ℕ → List Standing → Run
 recordOf closed rules k events n standings = recordWith closed rules k events n standings []
@@ -135,6 +137,33 @@ records =
     -- of other rules it is not read, nor past the rules
     ∷ validRun (ofCycle true 2 1 [] (Violated 0 ∷ Open ∷ [])) is true
     ∷ validRun (ofCycle true 1 1 [] (Violated 0 ∷ Idle ∷ Fulfilled 9 ∷ [])) is true
+    ∷ []
+
+-- activations, fulfilled, violated, open
+abbrev pub totals : ℕ → ℕ → ℕ → ℕ → Totals
+totals activations fulfilled violated still =
+    record { activations = activations; fulfilled = fulfilled; violated = violated; «open» = still }
+
+-- by the stored totals: of the first k of two rules and five events, under the first open, violated
+-- twice and fulfilled, under the second fulfilled
+abbrev pub storing : ℕ → List Totals → Run
+storing k stored =
+    withTotals (ofStandings false k 5 (Open ∷ Violated 2 ∷ Idle ∷ Violated 0 ∷ Fulfilled 1 ∷ replicate 251 Idle ++ (Fulfilled 1 ∷ []))) stored
+
+unfoldable pub storings : List (Case Bool)
+storings =
+    validRun (storing 2 (totals 4 1 2 1 ∷ totals 1 1 0 0 ∷ [])) is true
+    ∷ validRun (storing 2 (totals 3 1 2 1 ∷ totals 1 1 0 0 ∷ [])) is false
+    ∷ validRun (storing 2 (totals 4 2 2 1 ∷ totals 1 1 0 0 ∷ [])) is false
+    ∷ validRun (storing 2 (totals 4 1 1 1 ∷ totals 1 1 0 0 ∷ [])) is false
+    ∷ validRun (storing 2 (totals 4 1 2 0 ∷ totals 1 1 0 0 ∷ [])) is false
+    ∷ validRun (storing 2 (totals 4 1 2 1 ∷ totals 1 0 1 0 ∷ [])) is false
+    -- past the rules they are not read
+    ∷ validRun (storing 1 (totals 4 1 2 1 ∷ totals 9 9 9 9 ∷ [])) is true
+    -- position 0 is counted under a rule about the cycle, and not under another
+    ∷ validRun (withTotals (ofCycle true 2 1 [] (Violated 1 ∷ Violated 1 ∷ [])) (totals 1 0 1 0 ∷ totals 0 0 0 0 ∷ [])) is true
+    ∷ validRun (withTotals (ofCycle true 2 1 [] (Violated 1 ∷ Violated 1 ∷ [])) (totals 0 0 0 0 ∷ totals 0 0 0 0 ∷ [])) is false
+    ∷ validRun (withTotals (ofCycle true 2 1 [] (Violated 1 ∷ Violated 1 ∷ [])) (totals 1 0 1 0 ∷ totals 1 0 1 0 ∷ [])) is false
     ∷ []
 
 -- ---- start
@@ -242,19 +271,14 @@ positions =
     ∷ position 2 4 is false
     ∷ []
 
--- activations, fulfilled, violated, open
-abbrev pub totals : ℕ → ℕ → ℕ → ℕ → Totals
-totals activations fulfilled violated still =
-    record { activations = activations; fulfilled = fulfilled; violated = violated; «open» = still }
-
 -- the standing of each of the positions 0 to 8
 abbrev pub stands : ℕ → Standing
 stands i =
     getD (Violated 0 ∷ Idle ∷ Open ∷ Fulfilled 3 ∷ Violated 1 ∷ Fulfilled 0 ∷ Idle ∷ Violated 0 ∷ Fulfilled 2 ∷ []) i Idle
 
 -- of the first positions, position by position, from 0 on
-unfoldable pub counted : List (Case Totals)
-counted =
+unfoldable pub countings : List (Case Totals)
+countings =
     totalsBy stands 0 is totals 1 0 1 0
     ∷ totalsBy stands 1 is totals 1 0 1 0
     ∷ totalsBy stands 2 is totals 2 0 1 1
@@ -269,9 +293,32 @@ counted =
     ∷ totalsIn (ofCycle true 2 1 [] (Fulfilled 1 ∷ Fulfilled 1 ∷ [])) 2 is totals 0 0 0 0
     ∷ []
 
+-- the stored totals of the first two slots, before and after a call
+abbrev pub stores : Run → List Totals
+stores r = storedTotals r 1 ∷ storedTotals r 2 ∷ []
+
+-- exclusive choice and response of 1 by 2, of the first k; the slots past them hold 9
+abbrev pub storesAfter : (Run → Run) → ℕ → List Event → List Totals
+storesAfter call k events =
+    stores
+    (call
+    (withTotals (recordWith false (coded 16 ∷ coded 2 ∷ []) k events 2 (replicate 258 Idle) (Open ∷ [])) (totals 9 9 9 9 ∷ totals 9 9 9 9 ∷ [])))
+
+unfoldable pub storeds : List (Case (List Totals))
+storeds =
+    stores (started (tableOf (coded 16 ∷ coded 2 ∷ []))) is (totals 1 0 0 1 ∷ totals 0 0 0 0 ∷ [])
+    ∷ storesAfter judgedRun 2 (event 0 1 ∷ event 1 1 ∷ []) is (totals 1 0 0 1 ∷ totals 2 0 0 2 ∷ [])
+    ∷ storesAfter judgedRun 2 (event 0 1 ∷ event 1 2 ∷ []) is (totals 1 0 1 0 ∷ totals 1 1 0 0 ∷ [])
+    ∷ storesAfter judgedRun 1 (event 0 1 ∷ event 1 2 ∷ []) is (totals 1 0 1 0 ∷ totals 9 9 9 9 ∷ [])
+    ∷ storesAfter (λ r. closedRun (judgedRun r)) 2 (event 0 1 ∷ event 1 1 ∷ []) is (totals 1 1 0 0 ∷ totals 2 0 2 0 ∷ [])
+    ∷ storesAfter (λ r. closedRun (judgedRun r)) 1 (event 0 1 ∷ event 1 1 ∷ []) is (totals 1 1 0 0 ∷ totals 9 9 9 9 ∷ [])
+    ∷ stores (finishedRun (tableOf (coded 16 ∷ coded 2 ∷ [])) 2 (eventSlots (event 0 1 ∷ event 1 1 ∷ []))) is (totals 1 1 0 0 ∷ totals 2 0 2 0 ∷ [])
+    ∷ []
+
 pub record Checked : Type 0 where
   pub of-codes : AsExpected codes
   pub of-records : AsExpected records
+  pub of-storings : AsExpected storings
   pub of-starts : AsExpected starts
   pub of-zeros : AsExpected zeros
   pub of-takes : AsExpected judgements
@@ -279,4 +326,5 @@ pub record Checked : Type 0 where
   pub of-finished : AsExpected finished
   pub of-numbers : AsExpected numbers
   pub of-positions : AsExpected positions
-  pub of-totals : AsExpected counted
+  pub of-totals : AsExpected countings
+  pub of-stored : AsExpected storeds

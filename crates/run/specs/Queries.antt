@@ -8,7 +8,7 @@ use Rattle.declare.specs.Rules.{isOverallRule}
 use Rattle.declare.specs.Answers.{Answer, accepted, _>>_, require}
 use Rattle.standings.specs.declared.totals.Totals.{Totals}
 use Rattle.run.specs.declared.Run.{Run}
-use Rattle.run.specs.Records.{standingAt, totalsIn, validRun}
+use Rattle.run.specs.Records.{standingAt, storedTotals, validRun}
 
 -- "rules .. count from 1": k is one of n
 abbrev pub oneOf : ℕ → ℕ → Bool
@@ -26,8 +26,9 @@ standingOf r rule position = do
   require (oneOf (r .table .count) rule && isPosition (r .table) (r .count) rule position) 10
   accepted (standingAt r rule position)
 
+-- "totals answers with them"
 unfoldable pub totalsOf : Run → ℕ → Answer Totals
 totalsOf r rule = do
   require (validRun r) 11
   require (oneOf (r .table .count) rule) 10
-  accepted (totalsIn r rule)
+  accepted (storedTotals r rule)

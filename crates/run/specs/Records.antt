@@ -2,14 +2,14 @@
 use mathlib.Core.Path.{_≡_}
 use mathlib.Core.Bool.{Bool, true, not, cond, _&&_, _||_}
 use mathlib.Core.List.{List}
-use Prim.Native.Nat.{ℕ, _+_, _<_}
-use lib.Dec.{leb}
+use Prim.Native.Nat.{ℕ, _+_, _-_, _<_, min}
+use lib.Dec.{leb, ltb, eqb}
 use lib.ListN.{length, getD, take}
 use Rattle.declare.specs.declared.Event.{Event}
 use Rattle.declare.specs.declared.Rule.{Rule}
 use Rattle.declare.specs.declared.Standing.{Standing}
 use Rattle.declare.specs.declared.Standing.the-variants.{Idle, Open, Fulfilled, Violated}
-use Rattle.declare.specs.Lists.{all, allBelow}
+use Rattle.declare.specs.Lists.{all, allBelow, mapFrom}
 use Rattle.declare.specs.Limits.{mostRules, mostEvents}
 use Rattle.declare.specs.Events.{wellFormed, nonFalling}
 use Rattle.declare.specs.Overall.{isOverall}
@@ -20,7 +20,7 @@ use Rattle.declare.specs.Continuations.{horizon}
 use Rattle.standings.specs.declared.Cell.{Cell}
 use Rattle.standings.specs.declared.totals.Totals.{Totals}
 use Rattle.standings.specs.Places.{places, standingIn, overallIn, zeroIn, withZero}
-use Rattle.standings.specs.Totals.{totalsBy}
+use Rattle.standings.specs.Totals.{totalsBy, noTotals}
 use Rattle.run.specs.declared.Run.{Run}
 
 -- ---- what a record says
@@ -42,19 +42,35 @@ standingAt r rule position =
 abbrev pub totalsIn : Run → ℕ → Totals
 totalsIn r rule = totalsBy (standingAt r rule) (r .count)
 
--- ---- a record with other events, other standings, or closed
+-- "the run is to store all four per rule"
+abbrev pub storedTotals : Run → ℕ → Totals
+storedTotals r rule = getD (r .totals) (rule - 1) noTotals
+
+-- ---- a record with other events, other standings, closed, or counted
 
 abbrev pub withEvents : Run → ℕ → List Event → Run
 withEvents r count events =
-    record { closed = r .closed; table = r .table; count = count; events = events; cells = r .cells; overall = r .overall }
+    record { closed = r .closed; table = r .table; count = count; events = events; cells = r .cells; overall = r .overall; totals = r .totals }
 
 abbrev pub withStandings : Run → List Cell → List Cell → Run
 withStandings r cells overall =
-    record { closed = r .closed; table = r .table; count = r .count; events = r .events; cells = cells; overall = overall }
+    record { closed = r .closed; table = r .table; count = r .count; events = r .events; cells = cells; overall = overall; totals = r .totals }
 
 abbrev pub asClosed : Run → Run
 asClosed r =
-    record { closed = true; table = r .table; count = r .count; events = r .events; cells = r .cells; overall = r .overall }
+    record { closed = true; table = r .table; count = r .count; events = r .events; cells = r .cells; overall = r .overall; totals = r .totals }
+
+abbrev pub withTotals : Run → List Totals → Run
+withTotals r totals =
+    record { closed = r .closed; table = r .table; count = r .count; events = r .events; cells = r .cells; overall = r .overall; totals = totals }
+
+-- the totals of its rules, which have cells for 256 events; slots past the rules stay as they are
+unfoldable pub countedTotals : Run → List Totals
+countedTotals r =
+    mapFrom (λ k t. cond (ltb k (r .table .count)) (totalsBy (standingAt r (k + 1)) (min (r .count) mostEvents)) t) 0 (r .totals)
+
+abbrev pub counted : Run → Run
+counted r = withTotals r (countedTotals r)
 
 -- ---- valid
 
@@ -101,6 +117,19 @@ unfoldable pub validOverall : Bool → Table → ℕ → List Cell → Bool
 validOverall closed t count overall =
     allBelow (λ k. not (isOverallRule t (k + 1)) || validZero closed count (overallIn overall (k + 1))) (t .count)
 
+abbrev pub sameTotals : Totals → Totals → Bool
+sameTotals a b =
+    eqb (a .activations) (b .activations)
+    && eqb (a .fulfilled) (b .fulfilled)
+    && eqb (a .violated) (b .violated)
+    && eqb (a .«open») (b .«open»)
+
+-- "a record whose stored totals differ from its standings is refused as 11"; totals past the rules
+-- are not read
+unfoldable pub validTotals : Run → Bool
+validTotals r =
+    allBelow (λ k. sameTotals (storedTotals r (k + 1)) (totalsIn r (k + 1))) (r .table .count)
+
 -- nothing in the record is a cause of 11
 unfoldable pub validRun : Run → Bool
 validRun r =
@@ -108,6 +137,7 @@ validRun r =
     && validEvents (r .count) (r .events)
     && validStandings (r .closed) (r .table) (r .count) (r .cells)
     && validOverall (r .closed) (r .table) (r .count) (r .overall)
+    && validTotals r
 
 -- the lengths that the types of the code give its arrays
 pub record Sized (r : Run) : Type 0 where
@@ -115,3 +145,4 @@ pub record Sized (r : Run) : Type 0 where
   pub events : length (r .events) ≡ mostEvents
   pub cells : length (r .cells) ≡ places
   pub overall : length (r .overall) ≡ mostRules
+  pub totals : length (r .totals) ≡ mostRules

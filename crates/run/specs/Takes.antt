@@ -22,9 +22,9 @@ use Rattle.declare.specs.Answers.{Answer, accepted, _>>_, isAccepted, afterCall
 use Rattle.declare.specs.Steps.{admits, isTaken, taken}
 use Rattle.standings.specs.declared.totals.Totals.{Totals}
 use Rattle.standings.specs.Places.{places, idleCell, inUse}
-use Rattle.standings.specs.Totals.{totalsBy}
+use Rattle.standings.specs.Totals.{totalsBy, noTotals}
 use Rattle.run.specs.declared.Run.{Run}
-use Rattle.run.specs.Records.{standingAt, validRun}
+use Rattle.run.specs.Records.{standingAt, storedTotals, validRun}
 use Rattle.run.specs.Start.{started}
 use Rattle.run.specs.Take.{appended, judgedRun, takeOf}
 use Rattle.run.specs.Close.{closedRun, closeOf}
@@ -42,7 +42,7 @@ grown t offered = afterTakes (started t) offered
 -- ---- a run by its rules and events
 
 -- r has the table t and the events es, rule k stands at position i as `stands` says, position 0
--- included, and every other cell is idle
+-- included, and every other cell is idle; it is valid, so that its stored totals are the counts
 pub record RunOf (t : Table) (es : List Event) (over : Bool) (stands : ℕ → ℕ → Standing) (r : Run) : Type 0 where
   pub valid : validRun r ≡ true
   pub phase : r .closed ≡ over
@@ -52,9 +52,11 @@ pub record RunOf (t : Table) (es : List Event) (over : Bool) (stands : ℕ → �
   pub events : r .events ≡ eventSlots es
   pub cells : length (r .cells) ≡ places
   pub overall : length (r .overall) ≡ mostRules
+  pub totals : length (r .totals) ≡ mostRules
   pub standings : (k i : ℕ) → 1 ≤ k → k ≤ t .count → i ≤ length es → standingAt r k i ≡ stands k i
   pub idle : (j : ℕ) → j < places → inUse (t .count) (length es) j ≡ false → getD (r .cells) j idleCell ≡ idleCell
   pub others : (k : ℕ) → 1 ≤ k → k ≤ mostRules → isOverallRule t k ≡ false → getD (r .overall) (k - 1) idleCell ≡ idleCell
+  pub unused : (k : ℕ) → t .count < k → k ≤ mostRules → storedTotals r k ≡ noTotals
 
 -- "activations = fulfilled + violated + open, and activations is the number of taken events that
 -- fit its activation"; under a rule about the cycle "position 0, in place of events, is its one

@@ -23,8 +23,9 @@ use Rattle.declare.specs.Standings.{isIdle, isOpen}
 use Rattle.declare.specs.Answers.{afterCall}
 use Rattle.standings.specs.declared.Cell.{Cell}
 use Rattle.standings.specs.Places.{places, idleCell}
+use Rattle.standings.specs.Totals.{noTotals}
 use Rattle.run.specs.declared.Run.{Run}
-use Rattle.run.specs.Records.{eventsOf, horizonOf, standingAt, validRun, Sized}
+use Rattle.run.specs.Records.{eventsOf, horizonOf, standingAt, totalsIn, storedTotals, validRun, Sized}
 use Rattle.run.specs.Start.{started}
 use Rattle.run.specs.Take.{appended, judgedRun, takeOf}
 use Rattle.run.specs.Close.{closedRun, closeOf, finishedRun}
@@ -57,6 +58,8 @@ pub record Valid (r : Run) : Type 0 where
   pub formed : (i : ℕ) → 1 ≤ i → i ≤ r .count → wellFormed (eventAt (r .events) i) ≡ true
   pub order : (i : ℕ) → 1 ≤ i → i < r .count → eventAt (r .events) i .time ≤ eventAt (r .events) (i + 1) .time
   pub standings : (k i : ℕ) → 1 ≤ k → k ≤ r .table .count → i ≤ mostEvents → MayStand (r .closed) (ruleAt (r .table) k) (r .count) i (standingAt r k i)
+  -- "a record whose stored totals differ from its standings"
+  pub totals : (k : ℕ) → 1 ≤ k → k ≤ r .table .count → storedTotals r k ≡ totalsIn r k
 
 -- ---- start
 
@@ -70,6 +73,10 @@ unread r k = getD (r .overall) (k - 1) idleCell
 
 abbrev pub Unread : Run → ℕ → Type 0
 Unread r k = (1 ≤ k) × (k ≤ mostRules) × (isOverallRule (r .table) k ≡ false)
+
+-- a slot past the rules
+abbrev pub Unused : Run → ℕ → Type 0
+Unused r k = (r .table .count < k) × (k ≤ mostRules)
 
 -- "start copies the table and gives a run not closed, with no events, each event slot at time 0,
 -- activity 1 and blank readings, each standing idle"; a rule about the cycle is "judged from start
@@ -85,6 +92,8 @@ pub record Starts (t : Table) (r : Run) : Type 0 where
   pub standings : (k i : ℕ) → Placed k i → 1 ≤ i → standingAt r k i ≡ Idle
   pub judged : (k : ℕ) → 1 ≤ k → k ≤ t .count → k ≤ mostRules → standingAt r k 0 ≡ standing (ruleAt t k) [] 0 0
   pub others : (k : ℕ) → Unread r k → unread r k ≡ idleCell
+  pub totals : length (r .totals) ≡ mostRules
+  pub unused : (k : ℕ) → Unused r k → storedTotals r k ≡ noTotals
 
 -- the table of no rules
 pub record NoRules (t : Table) : Type 0 where
@@ -104,6 +113,7 @@ pub record Appends (r : Run) (e : Event) (next : Run) : Type 0 where
   pub others : (i : ℕ) → 1 ≤ i → (i ≡ r .count + 1 → ⊥) → eventAt (next .events) i ≡ eventAt (r .events) i
   pub cells : next .cells ≡ r .cells
   pub overall : next .overall ≡ r .overall
+  pub totals : next .totals ≡ r .totals
 
 -- of one of the run's rules, and one of its events or position 0
 abbrev pub InUse : Run → ℕ → ℕ → Type 0
@@ -112,7 +122,7 @@ InUse r k i = Placed k i × (k ≤ r .table .count) × (i ≤ r .count)
 abbrev pub NotInUse : Run → ℕ → ℕ → Type 0
 NotInUse r k i = Placed k i × ((r .table .count < k) ⊎ (r .count < i))
 
--- only standings change, and only those in use
+-- only standings and totals change, and only those in use
 pub record KeepsRest (r next : Run) : Type 0 where
   pub table : next .table ≡ r .table
   pub count : next .count ≡ r .count
@@ -121,6 +131,8 @@ pub record KeepsRest (r next : Run) : Type 0 where
   pub overall : length (next .overall) ≡ mostRules
   pub standings : (k i : ℕ) → NotInUse r k i → standingAt next k i ≡ standingAt r k i
   pub others : (k : ℕ) → Unread r k → unread next k ≡ unread r k
+  pub totals : length (next .totals) ≡ mostRules
+  pub unused : (k : ℕ) → Unused r k → storedTotals next k ≡ storedTotals r k
 
 -- what follows "from the events now in the record"
 abbrev pub standingNow : Run → ℕ → ℕ → Standing
@@ -161,6 +173,8 @@ pub record Finishes (t : Table) (es : List Event) (r : Run) : Type 0 where
   pub verdicts : (k i : ℕ) → InUse r k i → standingAt r k i ≡ verdict (ruleAt t k) es i
   pub others : (k i : ℕ) → NotInUse r k i → standingAt r k i ≡ Idle
   pub unread-idle : (k : ℕ) → Unread r k → unread r k ≡ idleCell
+  pub totals : length (r .totals) ≡ mostRules
+  pub unused : (k : ℕ) → Unused r k → storedTotals r k ≡ noTotals
 
 -- ---- of every run with the slots that the code gives it
 

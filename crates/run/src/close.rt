@@ -2,9 +2,9 @@
 ghost use mathlib.Core.Path.{_≡_};
 ghost use mathlib.Core.Bool.{cond};
 ghost use Prim.Native.Nat.{_≤_};
-ghost use Rattle.declare.specs.declared.Standing.the-variants.{Open};
 ghost use Rattle.declare.specs.Answers.{afterCall};
 ghost use Rattle.declare.specs.Limits.{mostRules};
+ghost use Rattle.declare.specs.Standings.{isOpen};
 ghost use Rattle.declare.specs.Templates.{polarityOf};
 ghost use Rattle.declare.specs.Verdicts.{decided};
 ghost use Rattle.run.specs.Answers.{stepAnswer};
@@ -14,48 +14,62 @@ use crate::Run;
 use crate::Step;
 use crate::record::valid_run;
 use declare::EVENTS;
+use declare::RULES;
 use declare::Refusal;
 use declare::Rule;
 use declare::Standing;
 use declare::Table;
+use declare::kind::is_idle;
 use declare::kind::is_open;
 use judge::overall::judge_overall;
 use judge::template::decide;
 use judge::template::template_of;
 use standings::Cell;
+use standings::CountedCells;
 use standings::PLACES;
+use standings::totals::Totals;
+use standings::totals::with_standing;
+use standings::totals::zero_totals;
 
-// What an open standing becomes, if its cell is in use: what the template says without a target.
-fn closing(used: bool, rule: Rule) -> Standing
-    ensures { λ r. ⌜ r ≡ cond used (decided (polarityOf rule) 0) Open ⌝ }
+// What the standing s of an event becomes: an open one what the template says without a target.
+fn closed(rule: Rule, s: Standing) -> Standing
+    ensures { λ r. ⌜ r ≡ cond (isOpen s) (decided (polarityOf rule) 0) s ⌝ }
 {
-    if !used {
-        return Standing::Open;
+    if !is_open(s) {
+        return s;
     }
     let template = template_of(rule.code);
     let polarity = template.polarity;
     decide(polarity, 0)
 }
 
-// All cells after closing; only the rows of the rules are gone through, and only what is open can
-// change.
-fn closed_cells(table: Table, count: usize, mut cells: [Cell; PLACES]) -> [Cell; PLACES]
+// All cells after closing, and counted; only the rows of the rules are gone through. Most cells are
+// idle: those are passed over.
+fn closed_cells(
+    table: Table,
+    mut cells: [Cell; PLACES],
+    mut totals: [Totals; RULES],
+) -> CountedCells
     requires { ⌜ table .count ≤ mostRules ⌝ }
-    ensures { λ r. ⌜ ClosedCells table count cells r ⌝ }
+    ensures { λ r. ⌜ ClosedCells table cells totals r ⌝ }
 {
     let end = table.count * EVENTS;
     for j in 0..end {
         let c = cells[j];
         let s = c.standing;
-        if is_open(s) {
-            let used = j % EVENTS < count;
-            let rule = table.rules[j / EVENTS];
-            cells[j] = Cell {
-                standing: closing(used, rule),
-            };
+        if is_idle(s) {
+            continue;
         }
+        let rule = table.rules[j / EVENTS];
+        let next = closed(rule, s);
+        cells[j] = Cell { standing: next };
+        let t = totals[j / EVENTS];
+        totals[j / EVENTS] = with_standing(t, next);
     }
-    cells
+    CountedCells {
+        cells: cells,
+        totals: totals,
+    }
 }
 
 impl Run {
@@ -74,8 +88,12 @@ impl Run {
         let events = self.events;
         let cells = self.cells;
         let overall = self.overall;
-        let next = closed_cells(table, self.count, cells);
+        let totals = self.totals;
         let zero = judge_overall(false, table, events, self.count, 0, overall);
+        let begun = zero_totals(table, zero, totals);
+        let next = closed_cells(table, cells, begun);
+        let decided = next.cells;
+        let counted = next.totals;
         Step {
             outcome: Outcome::Done,
             run: Run {
@@ -83,8 +101,9 @@ impl Run {
                 table: table,
                 count: self.count,
                 events: events,
-                cells: next,
+                cells: decided,
                 overall: zero,
+                totals: counted,
             },
         }
     }

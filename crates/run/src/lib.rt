@@ -18,8 +18,8 @@ mod close; // close.rt: close
 mod finished; // finished.rt: a finished cycle, closed at once
 mod queries; // queries.rt: standing and totals
 
-// A run: its rules, the first `count` of its event slots, and the standings: at its events, and at
-// position 0.
+// A run: its rules, the first `count` of its event slots, the standings, at its events and at
+// position 0, and the totals of each rule.
 pub struct Run {
     pub closed: bool,
     pub table: Table,
@@ -27,6 +27,7 @@ pub struct Run {
     pub events: [Event; EVENTS],
     pub cells: [Cell; PLACES],
     pub overall: [Cell; RULES],
+    pub totals: [Totals; RULES],
 }
 
 // Of start, take and close: done, or why not.

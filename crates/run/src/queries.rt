@@ -10,7 +10,6 @@ use declare::Refusal;
 use declare::Table;
 use declare::codes::is_overall_rule;
 use standings::standing_in;
-use standings::totals::totals_in;
 use standings::zero_in;
 
 // Whether k is one of 1 to n.
@@ -52,7 +51,7 @@ impl Run {
         StandingAnswer::Is(s)
     }
 
-    // The totals of a rule. Refused with 11 or 10.
+    // The stored totals of a rule. Refused with 11 or 10.
     pub fn totals(self, rule: usize) -> TotalsAnswer
         ensures { λ r. ⌜ totalsAnswer r ≡ totalsOf self rule ⌝ }
     {
@@ -62,11 +61,7 @@ impl Run {
         if !one_of(self.table.count, rule) {
             return TotalsAnswer::Refused(Refusal::NotFound);
         }
-        let table = self.table;
-        let overall = self.overall;
-        let cells = self.cells;
-        let zero = zero_in(table, overall, rule);
-        let t = totals_in(zero, cells, rule, self.count);
+        let t = self.totals[rule - 1];
         TotalsAnswer::Are(t)
     }
 }

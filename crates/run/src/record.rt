@@ -1,11 +1,14 @@
 // Whether a record is valid: the causes of refusal 11.
 ghost use mathlib.Core.Path.{_≡_};
-ghost use mathlib.Core.Bool.{cond};
+ghost use mathlib.Core.Bool.{true, cond};
 ghost use Prim.Native.Nat.{_+_, _≤_};
 ghost use lib.Dec.{leb};
-ghost use Rattle.declare.specs.Limits.{mostRules};
+ghost use lib.ListN.{getD};
+ghost use Rattle.declare.specs.Lists.{allBelow};
+ghost use Rattle.declare.specs.Limits.{mostRules, mostEvents};
 ghost use Rattle.declare.specs.Standings.{isIdle};
-ghost use Rattle.run.specs.Records.{validEvents, validStanding, EventsJudged, validStandings, validZero, validOverall, validRun};
+ghost use Rattle.standings.specs.Totals.{noTotals, rowTotals};
+ghost use Rattle.run.specs.Records.{validEvents, validStanding, EventsJudged, validStandings, validZero, validOverall, sameTotals, validRun};
 use crate::Run;
 use declare::EVENTS;
 use declare::Event;
@@ -18,6 +21,10 @@ use limits::event::well_formed;
 use limits::table::valid_table;
 use standings::Cell;
 use standings::PLACES;
+use standings::totals::Totals;
+use standings::totals::idle_totals;
+use standings::totals::with_standing;
+use standings::totals::zero_totals;
 
 // Whether the first `count` events are well-formed and their times do not fall.
 fn valid_events(count: usize, events: [Event; EVENTS]) -> bool
@@ -84,21 +91,44 @@ fn events_judged(table: Table, count: usize) -> [usize; RULES]
     counts
 }
 
-// Whether every cell of the rules' rows may stand where it does.
-fn valid_standings(closed: bool, table: Table, count: usize, cells: [Cell; PLACES]) -> bool
-    requires { ⌜ table .count ≤ mostRules ⌝ }
-    ensures { λ r. ⌜ r ≡ validStandings closed table count cells ⌝ }
+// The rules' rows after the check: whether they are valid, and then their totals.
+struct CheckedRows {
+    valid: bool,
+    totals: [Totals; RULES],
+}
+
+// Whether every cell of the rules' rows may stand where it does. The same pass counts them.
+fn checked_rows(
+    closed: bool,
+    table: Table,
+    count: usize,
+    cells: [Cell; PLACES],
+    mut totals: [Totals; RULES],
+) -> CheckedRows
+    requires { ⌜ (table .count ≤ mostRules) × (count ≤ mostEvents) ⌝ }
+    ensures { λ r. ⌜ (r .valid ≡ validStandings closed table count cells) × (r .valid ≡ true → r .totals ≡ rowTotals (table .count) count cells totals) ⌝ }
 {
     let counts = events_judged(table, count);
     let end = table.count * EVENTS;
     for j in 0..end {
         let c = cells[j];
         let s = c.standing;
-        if !valid_at(closed, count, counts[j / EVENTS], j % EVENTS, s) {
-            return false;
+        if is_idle(s) {
+            continue;
         }
+        if !valid_at(closed, count, counts[j / EVENTS], j % EVENTS, s) {
+            return CheckedRows {
+                valid: false,
+                totals: totals,
+            };
+        }
+        let t = totals[j / EVENTS];
+        totals[j / EVENTS] = with_standing(t, s);
     }
-    true
+    CheckedRows {
+        valid: true,
+        totals: totals,
+    }
 }
 
 // Whether s may stand at position 0, under a rule about the cycle.
@@ -127,6 +157,31 @@ fn valid_overall(closed: bool, table: Table, count: usize, overall: [Cell; RULES
     true
 }
 
+// Whether the two are equal in all four.
+fn same_totals(a: Totals, b: Totals) -> bool
+    ensures { λ r. ⌜ r ≡ sameTotals a b ⌝ }
+{
+    (a.activations == b.activations)
+        & (a.fulfilled == b.fulfilled)
+        & (a.violated == b.violated)
+        & (a.open == b.open)
+}
+
+// Whether the stored totals of each rule are those counted.
+fn valid_totals(rules: usize, stored: [Totals; RULES], counted: [Totals; RULES]) -> bool
+    requires { ⌜ rules ≤ mostRules ⌝ }
+    ensures { λ r. ⌜ r ≡ allBelow (λ k. sameTotals (getD stored k noTotals) (getD counted k noTotals)) rules ⌝ }
+{
+    for k in 0..rules {
+        let a = stored[k];
+        let b = counted[k];
+        if !same_totals(a, b) {
+            return false;
+        }
+    }
+    true
+}
+
 // Whether nothing in the record is a cause of refusal 11.
 pub fn valid_run(run: Run) -> bool
     ensures { λ r. ⌜ r ≡ validRun run ⌝ }
@@ -140,9 +195,16 @@ pub fn valid_run(run: Run) -> bool
     if !valid_events(run.count, events) {
         return false;
     }
-    if !valid_standings(run.closed, table, run.count, cells) {
+    let overall = run.overall;
+    let begun = zero_totals(table, overall, idle_totals());
+    let rows = checked_rows(run.closed, table, run.count, cells, begun);
+    if !rows.valid {
         return false;
     }
-    let overall = run.overall;
-    valid_overall(run.closed, table, run.count, overall)
+    if !valid_overall(run.closed, table, run.count, overall) {
+        return false;
+    }
+    let stored = run.totals;
+    let counted = rows.totals;
+    valid_totals(table.count, stored, counted)
 }

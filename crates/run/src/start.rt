@@ -14,6 +14,8 @@ use judge::overall::judge_overall;
 use limits::table::valid_table;
 use standings::idle_cells;
 use standings::idle_overall;
+use standings::totals::idle_totals;
+use standings::totals::zero_totals;
 
 // The run that has taken nothing yet.
 pub fn new_run(table: Table) -> Run
@@ -22,6 +24,7 @@ pub fn new_run(table: Table) -> Run
     let slot = empty_slot();
     let events = [slot; EVENTS];
     let overall = judge_overall(true, table, events, 0, 0, idle_overall());
+    let totals = zero_totals(table, overall, idle_totals());
     Run {
         closed: false,
         table: table,
@@ -29,6 +32,7 @@ pub fn new_run(table: Table) -> Run
         events: events,
         cells: idle_cells(),
         overall: overall,
+        totals: totals,
     }
 }
 

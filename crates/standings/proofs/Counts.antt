@@ -35,7 +35,7 @@ totals-first s = go (s 0) refl
     go (Violated j) e = rw e refl
 
 -- one position more, as long as 16 bits hold the counts
-totals-next : (s : ℕ → Standing) (n : ℕ) → n < 65534 → withStanding (totalsBy s n) (s (suc n)) ≡ totalsBy s (suc n)
+pub totals-next : (s : ℕ → Standing) (n : ℕ) → n < 65534 → withStanding (totalsBy s n) (s (suc n)) ≡ totalsBy s (suc n)
 unfolding totalsBy positionsOf countBelow withStanding
 totals-next s n h = go (s (suc n)) refl
   where

@@ -3,4 +3,5 @@ pub mod Places
 pub mod Changes
 pub mod Same
 pub mod Counts
+pub mod Counting
 mod Rows

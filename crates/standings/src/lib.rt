@@ -3,6 +3,7 @@
 ghost use mathlib.Core.Path.{_≡_};
 ghost use Rattle.standings.specs.Places.{idleCells, idleOverall, standingIn, zeroIn};
 use crate::place::row_start;
+use crate::totals::Totals;
 use declare::RULES;
 use declare::Standing;
 use declare::Table;
@@ -17,6 +18,12 @@ pub const PLACES: usize = 4096;
 
 pub struct Cell {
     pub standing: Standing,
+}
+
+// The cells of all rules, and totals that count them.
+pub struct CountedCells {
+    pub cells: [Cell; PLACES],
+    pub totals: [Totals; RULES],
 }
 
 // As start gives them.

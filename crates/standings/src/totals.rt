@@ -1,12 +1,11 @@
 // The totals of a rule: how many of its positions stand in each way.
 ghost use mathlib.Core.Path.{_≡_};
-ghost use Prim.Native.Nat.{_+_, _≤_};
-ghost use Rattle.standings.specs.Places.{places, standingFrom, standingIn, withZero};
-ghost use Rattle.standings.specs.Totals.{noTotals, oneMore, withStanding, totalsBy};
+ghost use Rattle.standings.specs.Totals.{noTotals, oneMore, withStanding, idleTotals, zeroTotals};
 use crate::Cell;
-use crate::PLACES;
-use crate::place::row_start;
+use crate::zero_in;
+use declare::RULES;
 use declare::Standing;
+use declare::Table;
 use declare::numbers::min;
 
 // How many positions of a rule are not idle, and how many of these are fulfilled, violated and
@@ -64,25 +63,26 @@ pub fn with_standing(t: Totals, s: Standing) -> Totals
     }
 }
 
-// The totals of a rule that stands at position 0 as `zero` says, with a row of n places from place
-// `first` on.
-fn totals_from(zero: Standing, cells: [Cell; PLACES], first: usize, n: usize) -> Totals
-    requires { ⌜ first + n ≤ places ⌝ }
-    ensures { λ r. ⌜ r ≡ totalsBy (withZero zero (standingFrom cells first)) n ⌝ }
+// Of all rules, as start gives them.
+pub fn idle_totals() -> [Totals; RULES]
+    ensures { λ r. ⌜ r ≡ idleTotals ⌝ }
 {
-    let mut t = with_standing(no_totals(), zero);
-    for p in 0..n {
-        let c = cells[first + p];
-        let s = c.standing;
-        t = with_standing(t, s);
-    }
-    t
+    let none = no_totals();
+    [none; RULES]
 }
 
-// The totals of a rule's positions 0 to `count`; past the cells they are idle.
-pub fn totals_in(zero: Standing, cells: [Cell; PLACES], rule: usize, count: usize) -> Totals
-    ensures { λ r. ⌜ r ≡ totalsBy (withZero zero (standingIn cells rule)) count ⌝ }
+// Each rule's slot begun with its position 0; slots past the rules stay as they are.
+pub fn zero_totals(
+    table: Table,
+    overall: [Cell; RULES],
+    mut totals: [Totals; RULES],
+) -> [Totals; RULES]
+    ensures { λ r. ⌜ r ≡ zeroTotals table overall totals ⌝ }
 {
-    let first = row_start(rule);
-    totals_from(zero, cells, first, min(count, PLACES - first))
+    let rules = min(table.count, RULES);
+    for k in 0..rules {
+        let zero = zero_in(table, overall, k + 1);
+        totals[k] = with_standing(no_totals(), zero);
+    }
+    totals
 }

@@ -18,9 +18,12 @@ const STANDINGS_AT: usize = EVENTS_AT + EVENT_SLOTS * EVENT_BYTES;
 const OVERALL_AT: usize = STANDINGS_AT + RULE_SLOTS * EVENT_SLOTS * STANDING_BYTES;
 /// The dump `z`: position 0 of each rule slot.
 pub const OVERALL_BYTES: usize = RULE_SLOTS * STANDING_BYTES;
+const TOTALS_AT: usize = OVERALL_AT + OVERALL_BYTES;
+/// Four numbers of 16 bits.
+const TOTALS_BYTES: usize = 8;
 /// The dump `D`: a head of 24 bytes, rule slots, event slots, standings, those at
-/// position 0.
-pub const RUN_BYTES: usize = OVERALL_AT + OVERALL_BYTES;
+/// position 0, stored totals.
+pub const RUN_BYTES: usize = TOTALS_AT + RULE_SLOTS * TOTALS_BYTES;
 
 /// The answer of a call, all of its fields. What a call does not name is 0.
 #[derive(Debug, Clone, Copy, PartialEq, Eq, Default)]
@@ -74,13 +77,7 @@ impl Answer {
     pub fn totals(answer: Result<Totals, Refusal>) -> Answer {
         match answer {
             Ok(totals) => Answer {
-                totals: [
-                    totals.activations,
-                    totals.fulfilled,
-                    totals.violated,
-                    totals.open,
-                ]
-                .map(|total| u16::try_from(total).expect("a total is at most 256")),
+                totals: totals.numbers(),
                 ..Answer::default()
             },
             Err(refusal) => Answer::refused(refusal),
@@ -113,7 +110,7 @@ impl Answer {
     pub fn decode(bytes: &[u8]) -> Result<Answer, Wrong> {
         let mut read = Bytes::new(bytes);
         let head = head_of(&mut read)?;
-        let totals = [read.u16()?, read.u16()?, read.u16()?, read.u16()?];
+        let totals = totals_of(&mut read)?.numbers();
         read.end()?;
         Ok(Answer { totals, ..head })
     }
@@ -199,6 +196,10 @@ pub fn decode_run(bytes: &[u8]) -> Result<Record, Wrong> {
         (0..cells).map(|_| standing_of(&mut read)).collect();
     let standings = standings?;
     let overall = overall_of(&mut read)?;
+    let mut totals = [Totals::default(); RULE_SLOTS];
+    for slot in &mut totals {
+        *slot = totals_of(&mut read)?;
+    }
     read.end()?;
     Ok(Record {
         closed,
@@ -207,7 +208,14 @@ pub fn decode_run(bytes: &[u8]) -> Result<Record, Wrong> {
         events,
         standings,
         overall,
+        totals,
     })
+}
+
+/// "activations, fulfilled, violated, open, 16 bits each"
+fn totals_of(read: &mut Bytes) -> Result<Totals, Wrong> {
+    let numbers = [read.u16()?, read.u16()?, read.u16()?, read.u16()?];
+    Ok(Totals::with_numbers(numbers))
 }
 
 fn overall_of(read: &mut Bytes) -> Result<[Standing; RULE_SLOTS], Wrong> {
@@ -312,12 +320,7 @@ mod tests {
         let expected = Answer::standing(Ok(Standing::Violated(260)));
         assert_eq!(Answer::decode(&bytes), Ok(expected));
         let bytes = [0, 0, 0, 0, 0, 0, 0, 0, 0, 1, 2, 0, 3, 0, 251, 0];
-        let totals = Totals {
-            activations: 256,
-            fulfilled: 2,
-            violated: 3,
-            open: 251,
-        };
+        let totals = Totals::with_numbers([256, 2, 3, 251]);
         assert_eq!(Answer::decode(&bytes), Ok(Answer::totals(Ok(totals))));
         let mut bytes = [0; 16];
         assert_eq!(Answer::decode(&bytes), Ok(Answer::plain(Ok(()))));
@@ -422,7 +425,8 @@ mod tests {
     fn the_parts_of_a_run_have_their_places() {
         assert_eq!((RULE_BYTES, EVENTS_AT), (84, 1368));
         assert_eq!((STANDINGS_AT, OVERALL_AT), (7512, 23_896));
-        assert_eq!((OVERALL_BYTES, RUN_BYTES), (64, 23_960));
+        assert_eq!((OVERALL_BYTES, TOTALS_AT), (64, 23_960));
+        assert_eq!(RUN_BYTES, 24_088);
     }
 
     #[test]
@@ -459,7 +463,7 @@ mod tests {
         put(&mut bytes, 7512 + 4 * 257, &[2, 0, 4, 1]);
         put(&mut bytes, 23_892, &[1]);
         put(&mut bytes, 23_896, &[3, 0, 2, 1]);
-        put(&mut bytes, RUN_BYTES - 4, &[1]);
+        put(&mut bytes, 23_956, &[1]);
         let record = decode_run(&bytes).expect("a run");
         let expected = Event::new(0x0403_0201, 64)
             .with_reading(1, -1)
@@ -474,6 +478,22 @@ mod tests {
         assert_eq!(record.overall[0], Standing::Violated(258));
         assert_eq!(record.overall[15], Standing::Open);
         assert_eq!(record.overall[1..15], [Standing::Idle; 14]);
+    }
+
+    #[test]
+    fn a_run_has_its_stored_totals() {
+        let mut bytes = run_bytes();
+        put(&mut bytes, 23_960, &[1, 1, 2, 0, 3, 0, 255, 255]);
+        put(&mut bytes, 23_968, &[0, 0, 0, 0, 0, 0, 4, 0]);
+        put(&mut bytes, 24_080, &[5, 0, 0, 0, 0, 6]);
+        let totals = decode_run(&bytes).expect("a run").totals;
+        let numbers = |slot: usize| totals[slot].numbers();
+        assert_eq!(numbers(0), [257, 2, 3, 65_535]);
+        assert_eq!((totals[0].activations, totals[0].fulfilled), (257, 2));
+        assert_eq!((totals[0].violated, totals[0].open), (3, 65_535));
+        assert_eq!(numbers(1), [0, 0, 0, 4]);
+        assert_eq!(totals[2..15], [Totals::default(); 13]);
+        assert_eq!(numbers(15), [5, 0, 1536, 0]);
     }
 
     #[test]
@@ -504,5 +524,7 @@ mod tests {
             assert!(decode_run(&bytes).is_err(), "{at}");
         }
         assert!(decode_run(&run_bytes()[1..]).is_err());
+        assert!(decode_run(&run_bytes()[..RUN_BYTES - 1]).is_err());
+        assert!(decode_run(&[run_bytes(), vec![0]].concat()).is_err());
     }
 }

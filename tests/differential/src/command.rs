@@ -65,6 +65,11 @@ pub enum Command {
         cell: u32,
         standing: Standing,
     },
+    /// Of each number the low 16 bits are stored.
+    SetTotals {
+        slot: u8,
+        numbers: [u32; 4],
+    },
     SetTally(Tally),
     Start,
     Take(Event),
@@ -118,6 +123,7 @@ impl Command {
             Command::SetClosed { .. } => 'F',
             Command::SetEvent { .. } => 'E',
             Command::SetStanding { .. } => 'S',
+            Command::SetTotals { .. } => 'O',
             Command::SetTally(_) => 'A',
             Command::Start => 's',
             Command::Take(_) => 'e',
@@ -170,6 +176,7 @@ impl Command {
             Command::SetClosed { closed } => fields.byte(1, u8::from(*closed)),
             Command::SetEvent { slot, event } => fields.event(event).p(*slot),
             Command::SetStanding { cell, standing } => fields.standing(*standing).p(*cell),
+            Command::SetTotals { slot, numbers } => fields.byte(1, *slot).four(*numbers),
             Command::SetTally(tally) => fields.tally(tally),
             Command::Take(event) => fields.event(event),
             Command::Standing { rule, position } => fields.p(*rule).q(*position),
@@ -326,18 +333,21 @@ impl Fields {
         }
     }
 
+    /// r1 to r4, "read as unsigned numbers".
+    fn four(self, numbers: [u32; 4]) -> Fields {
+        let numbered = (1..).zip(numbers);
+        numbered.fold(self, |fields, (number, value)| {
+            fields.r(number, value as i32)
+        })
+    }
+
     fn tally(self, tally: &Tally) -> Fields {
-        [
+        self.four([
             tally.cycles,
             tally.activations,
             tally.fulfilled,
             tally.violated,
-        ]
-        .iter()
-        .zip(1..)
-        .fold(self, |fields, (value, number)| {
-            fields.put(12 + 4 * number, &value.to_le_bytes())
-        })
+        ])
     }
 }
 
@@ -491,6 +501,17 @@ mod tests {
             let placed: [(usize, &[u8]); 3] = [(1, &[3]), (8, &[low, 16]), (12, &[5])];
             assert_eq!(set, bytes(b'S', &placed));
         }
+    }
+
+    #[test]
+    fn stored_totals() {
+        let set = encoded(Command::SetTotals {
+            slot: 15,
+            numbers: [256, u32::MAX, 0, 0x0001_0002],
+        });
+        let placed: [(usize, &[u8]); 4] =
+            [(1, &[15]), (16, &[0, 1]), (20, &[255; 4]), (28, &[2, 0, 1])];
+        assert_eq!(set, bytes(b'O', &placed));
     }
 
     #[test]

@@ -29,6 +29,8 @@ fn shown(standing: Standing) -> usize {
 #[derive(Debug, Clone, Default)]
 pub struct Counts {
     pub cases: usize,
+    /// Runs handed in that are refused with 11 for their totals alone.
+    pub miscounted: usize,
     /// By the command's letter and the number answered.
     answers: BTreeMap<(char, u8), usize>,
     /// Dumps by their letter.
@@ -41,6 +43,7 @@ pub struct Counts {
 impl Counts {
     pub fn add(&mut self, case: &Case) {
         self.cases += 1;
+        self.miscounted += case.miscounted;
         for step in &case.steps {
             if let Some(expected) = &step.expected {
                 self.add_step(&step.command, expected);
@@ -77,6 +80,7 @@ impl Counts {
 
     pub fn merge(&mut self, other: &Counts) {
         self.cases += other.cases;
+        self.miscounted += other.miscounted;
         for (key, count) in &other.answers {
             *self.answers.entry(*key).or_default() += count;
         }
@@ -157,6 +161,9 @@ impl fmt::Display for Counts {
             if self.dumps(letter) > 0 {
                 write!(f, ", {} {name}", self.dumps(letter))?;
             }
+        }
+        if self.miscounted > 0 {
+            write!(f, ", {} runs with wrong totals alone", self.miscounted)?;
         }
         Ok(())
     }

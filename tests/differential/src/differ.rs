@@ -107,6 +107,14 @@ impl Fields {
         }
     }
 
+    /// The stored totals of every rule slot.
+    fn totals(&mut self, expected: &Record, found: &Record) {
+        for (index, totals) in expected.totals.iter().enumerate() {
+            let name = format_args!("totals of rule slot {index}");
+            self.compare(name, *totals, found.totals[index]);
+        }
+    }
+
     fn mismatch(self) -> Mismatch {
         let more = self.0.len().saturating_sub(SHOWN_FIELDS);
         let (expected, found): (Vec<String>, Vec<String>) =
@@ -134,6 +142,7 @@ pub fn differing_fields(expected: &Record, found: &Record) -> Mismatch {
     }
     fields.standings(expected, found, 16);
     fields.overall(expected, found, &Vec::from_iter(1..=16));
+    fields.totals(expected, found);
     fields.mismatch()
 }
 
@@ -146,7 +155,7 @@ fn overall_rules(run: &Record) -> Vec<usize> {
 
 /// The same for a run of the notebook: rule slots past the count, the rows of
 /// rules that the table does not have, and position 0 of these and of the rules 1
-/// to 12 are not compared.
+/// to 12 are not compared. The totals of all slots are.
 pub fn differing_used_fields(expected: &Record, found: &Record) -> Result<(), Mismatch> {
     let mut fields = Fields::default();
     fields.compare("closed", expected.closed, found.closed);
@@ -158,6 +167,7 @@ pub fn differing_used_fields(expected: &Record, found: &Record) -> Result<(), Mi
     }
     fields.standings(expected, found, expected.table.count as usize);
     fields.overall(expected, found, &overall_rules(expected));
+    fields.totals(expected, found);
     match fields.0.is_empty() {
         true => Ok(()),
         false => Err(fields.mismatch()),
@@ -200,23 +210,26 @@ mod tests {
         other.events[255].time = 9;
         other.standings[place(16, 256)] = Standing::Fulfilled(3);
         other.overall[0] = Standing::Violated(7);
+        other.totals[15].open = 3;
         let mismatch = differing_fields(&run(), &other);
         for part in [
             "closed: false",
             "event slot 255: ",
             "rule 16 at position 256: Idle",
             "rule 1 at position 0: Idle",
+            "totals of rule slot 15: ",
         ] {
             assert!(mismatch.expected.contains(part), "{mismatch:?}");
         }
         assert!(mismatch.found.contains("position 256: Fulfilled(3)"));
         assert!(mismatch.found.contains("position 0: Violated(7)"));
+        assert!(mismatch.found.contains("open: 3"));
         assert!(mismatch.found.ends_with("(and 0 more)"));
     }
 
     #[test]
     fn every_used_field_of_a_notebook_run_is_compared() {
-        let changes: [fn(&mut Record); 8] = [
+        let changes: [fn(&mut Record); 13] = [
             |run| run.closed = true,
             |run| run.count = 3,
             |run| run.table.count = 1,
@@ -225,6 +238,11 @@ mod tests {
             |run| run.events[2].activity = 2,
             |run| run.standings[place(2, 256)] = Standing::Open,
             |run| run.overall[2] = Standing::Open,
+            |run| run.totals[0].activations = 3,
+            |run| run.totals[1].fulfilled = 1,
+            |run| run.totals[2].violated = 1,
+            |run| run.totals[2].open = 1,
+            |run| run.totals[15].open = 1,
         ];
         for change in changes {
             let mut other = run();

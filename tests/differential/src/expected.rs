@@ -28,9 +28,9 @@ pub enum Expected {
     },
     /// The dump `D`, every slot of it.
     Run(Box<Record>),
-    /// The dump `D` after the notebook reading: what the documents fix of it. The
-    /// rule slots past the count and their rows are free, and so is position 0 of
-    /// these and of the rules 1 to 12.
+    /// The dump `D` after the notebook reading: what is fixed of it. The rule slots
+    /// past the count and their rows are free, and so is position 0 of these and of
+    /// the rules 1 to 12; their totals are 0.
     NotebookRun(Box<Record>),
     /// The dump `D` after a rules text: the rules of its table.
     Rules(Vec<Rule>),

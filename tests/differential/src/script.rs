@@ -7,7 +7,7 @@ use evaluator::slots::{COMPARISON_SLOTS, RULE_SLOTS};
 use evaluator::{absorb, notebook_record, place, print_texts, read_cycle, read_rules, start};
 use evaluator::{write_cycle_of, write_report_of, write_rules_of};
 use evaluator::{Comparison, ConditionSlot, Event, Operator, Record, Refusal};
-use evaluator::{Rule, RuleSlot, Standing, TableRecord, Tally, Text};
+use evaluator::{Rule, RuleSlot, Standing, TableRecord, Tally, Text, Totals};
 
 /// A command and what it has to answer, if it answers.
 #[derive(Debug, Clone)]
@@ -23,6 +23,8 @@ pub struct Case {
     pub kind: &'static str,
     pub seed: u64,
     pub steps: Vec<Step>,
+    /// How many of the runs in it are refused with 11 for their totals alone.
+    pub miscounted: usize,
 }
 
 impl Case {
@@ -31,6 +33,7 @@ impl Case {
             kind,
             seed,
             steps: Vec::new(),
+            miscounted: 0,
         }
     }
 
@@ -113,8 +116,9 @@ impl Case {
     }
 
     /// Makes the run this one, field by field. What a fresh run has already is
-    /// left out.
+    /// left out, but for the totals.
     pub fn load_run(&mut self, run: &Record) {
+        self.miscounted += usize::from(is_miscounted(run));
         self.fresh();
         self.load_table(&run.table);
         self.send(Command::SetTable);
@@ -136,7 +140,20 @@ impl Case {
                 self.send(Command::SetStanding { cell, standing });
             }
         }
+        for (slot, totals) in (0..).zip(run.totals) {
+            let numbers = totals.numbers().map(u32::from);
+            self.send(Command::SetTotals { slot, numbers });
+        }
     }
+}
+
+/// Whether the run is refused with 11, and not if its totals are counted anew.
+fn is_miscounted(run: &Record) -> bool {
+    // No run has a rule 0, so that it is the check alone that matters.
+    let is_refused = |run: &Record| run.totals(0) == Err(Refusal::plain(11));
+    let mut counted = run.clone();
+    counted.count_totals();
+    is_refused(run) && !is_refused(&counted)
 }
 
 /// The table that `t` makes: "all 16 rule slots with code 0, activities 0,
@@ -247,6 +264,15 @@ impl Session {
     pub fn set_table(&mut self) {
         self.case.send(Command::SetTable);
         self.run.table = self.table.clone();
+    }
+
+    /// The stored totals of a slot become the low 16 bits of these numbers; a slot
+    /// that does not exist is left out.
+    pub fn set_totals(&mut self, slot: u8, numbers: [u32; 4]) {
+        self.case.send(Command::SetTotals { slot, numbers });
+        if let Some(totals) = self.run.totals.get_mut(usize::from(slot)) {
+            *totals = Totals::with_numbers(numbers.map(|number| number as u16));
+        }
     }
 
     /// Start from a table; an accepted one becomes the run.

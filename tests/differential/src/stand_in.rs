@@ -7,12 +7,13 @@ use crate::script::new_table;
 use evaluator::slots::{EVENT_SLOTS, RULE_SLOTS};
 use evaluator::{absorb, notebook_record, place, read_cycle, read_rules, start, verdicts};
 use evaluator::{Comparison, ConditionSlot, Event, Operator, Record, Reference, Refusal};
-use evaluator::{RuleSlot, Standing, TableRecord, Tally, Text};
+use evaluator::{RuleSlot, Standing, TableRecord, Tally, Text, Totals};
 
 mod numbers;
 mod overall;
 mod printed;
 mod targets;
+mod totals;
 mod written;
 
 use written::Source;
@@ -157,12 +158,46 @@ pub enum Mistake {
     ReadsIdleAtZero,
     /// Position 0 is not printed.
     PrintsNoZero,
+    /// Start stores no totals, though position 0 is judged.
+    StartsWithNoTotals,
+    /// A take counts the totals before it judges.
+    CountsBeforeJudging,
+    /// A take adds to the totals what it does to a run that was grown.
+    CountsByDifference,
+    /// Close leaves the totals as they were.
+    ClosesWithOldTotals,
+    /// The notebook stores no totals.
+    ReadsNoTotals,
+    /// Take and close clear the totals of unused slots.
+    ClearsUnusedTotals,
+    /// A refused take or close stores the right totals.
+    CorrectsRefused,
+    /// A record is refused with 11 if the totals of an unused slot are not 0.
+    ChecksUnusedTotals,
+    /// Of the stored totals the check looks at the activations alone.
+    ChecksActivationsAlone,
+    /// A closed run is refused with 9 before its totals are looked at.
+    ClosedBeforeTotals,
+    /// A take does not look at the stored totals.
+    TakesMiscounted,
+    /// Close does not look at the stored totals.
+    ClosesMiscounted,
+    /// Standing does not look at the stored totals.
+    ShowsMiscounted,
+    /// Totals does not look at the stored ones, and counts.
+    AnswersMiscounted,
+    /// The tally does not look at the stored totals.
+    AbsorbsMiscounted,
+    /// The writer of events does not look at the stored totals.
+    WritesMiscounted,
+    /// The report does not look at the stored totals.
+    ReportsMiscounted,
     /// The last four bytes of the answers are missing.
     EndsEarly,
 }
 
 impl Mistake {
-    pub const ALL: [Mistake; 69] = [
+    pub const ALL: [Mistake; 86] = [
         Mistake::NeverOpen,
         Mistake::JudgesAnew,
         Mistake::NamesTheEarliest,
@@ -231,6 +266,23 @@ impl Mistake {
         Mistake::RefusesEqualUnder13,
         Mistake::ReadsIdleAtZero,
         Mistake::PrintsNoZero,
+        Mistake::StartsWithNoTotals,
+        Mistake::CountsBeforeJudging,
+        Mistake::CountsByDifference,
+        Mistake::ClosesWithOldTotals,
+        Mistake::ReadsNoTotals,
+        Mistake::ClearsUnusedTotals,
+        Mistake::CorrectsRefused,
+        Mistake::ChecksUnusedTotals,
+        Mistake::ChecksActivationsAlone,
+        Mistake::ClosedBeforeTotals,
+        Mistake::TakesMiscounted,
+        Mistake::ClosesMiscounted,
+        Mistake::ShowsMiscounted,
+        Mistake::AnswersMiscounted,
+        Mistake::AbsorbsMiscounted,
+        Mistake::WritesMiscounted,
+        Mistake::ReportsMiscounted,
         Mistake::EndsEarly,
     ];
 }
@@ -304,6 +356,10 @@ impl Read<'_> {
         }
     }
 
+    fn totals(&self) -> Totals {
+        Totals::with_numbers([1, 2, 3, 4].map(|number| self.r(number) as u16))
+    }
+
     fn comparison(&self) -> Comparison {
         let plus = self.r(1) as i32;
         Comparison {
@@ -365,7 +421,7 @@ impl State {
                 self.set_table(read);
                 after
             }
-            b'T' | b'C' | b'F' | b'E' | b'S' | b'A' => {
+            b'T' | b'C' | b'F' | b'E' | b'S' | b'O' | b'A' => {
                 self.set_field(read);
                 after
             }
@@ -419,6 +475,11 @@ impl State {
                 self.run.overall[at - RULE_SLOTS * EVENT_SLOTS] = read.standing();
             }
             b'S' => self.run.standings[at] = read.standing(),
+            b'O' => {
+                if let Some(totals) = self.run.totals.get_mut(usize::from(read.b(1))) {
+                    *totals = read.totals();
+                }
+            }
             _ => {
                 self.tally = Tally {
                     cycles: read.r(1),
@@ -447,7 +508,8 @@ impl State {
     }
 
     fn call(&mut self, read: &Read) {
-        if b"exgob".contains(&read.b(0)) && self.refuses_zeros() {
+        let refuses = self.refuses_zeros() || self.refuses_unused_totals();
+        if b"exgob".contains(&read.b(0)) && refuses {
             return self.answer(Some(Refusal::plain(11)), [0; 12]);
         }
         match read.b(0) {
@@ -460,7 +522,7 @@ impl State {
             b'g' => self.standing(u64::from(read.p()), u64::from(read.q())),
             b'o' => self.totals(read.n()),
             b'b' => {
-                let answer = absorb(&self.run, read.n(), &mut self.tally);
+                let answer = absorb(&self.seen_by(b'b'), read.n(), &mut self.tally);
                 if answer.is_err() && self.has(Mistake::CountsRefused) {
                     self.tally.cycles = self.tally.cycles.saturating_add(1);
                 }
@@ -477,15 +539,19 @@ impl State {
         if self.run.closed && self.has(Mistake::ClosedFirst) {
             return self.answer(Some(Refusal::plain(9)), [0; 12]);
         }
-        let (mut run, answer) = self.run.clone().take(event);
+        let (mut run, answer) = self.seen_by(b'e').take(event);
         let count = run.count as usize;
         if answer.is_err() && self.has(Mistake::KeepsRefused) && count < EVENT_SLOTS {
             run.events[count] = event;
         }
-        if answer.is_ok() {
-            self.change_taken(&mut run);
-            self.change_targets(&mut run);
-            self.change_position_0(&mut run);
+        match answer {
+            Ok(()) => {
+                self.change_taken(&mut run);
+                self.change_targets(&mut run);
+                self.change_position_0(&mut run);
+                self.change_totals(b'e', &mut run);
+            }
+            Err(_) => self.change_refused_totals(&mut run),
         }
         self.run = run;
         self.answer(answer.err(), [0; 12]);
@@ -511,7 +577,7 @@ impl State {
 
     fn close(&mut self) {
         let before = self.run.clone();
-        let (mut run, answer) = self.run.clone().close();
+        let (mut run, answer) = self.seen_by(b'x').close();
         if answer.is_ok() && self.has(Mistake::ClosesToViolated) {
             let used = run.table.count as usize * EVENT_SLOTS;
             for (new, old) in run.standings[..used].iter_mut().zip(&before.standings) {
@@ -520,8 +586,12 @@ impl State {
                 }
             }
         }
-        if answer.is_ok() {
-            self.change_closed_0(&mut run);
+        match answer {
+            Ok(()) => {
+                self.change_closed_0(&mut run);
+                self.change_totals(b'x', &mut run);
+            }
+            Err(_) => self.change_refused_totals(&mut run),
         }
         self.run = run;
         self.answer(answer.err(), [0; 12]);
@@ -535,7 +605,7 @@ impl State {
     }
 
     fn standing(&mut self, rule: u64, position: u64) {
-        let run = self.run_as_checked();
+        let run = self.run_as_checked(b'g');
         let answer = run.standing(self.number(rule), self.number(position));
         let mut rest = [0; 12];
         if let Ok(standing) = answer {
@@ -547,22 +617,14 @@ impl State {
     }
 
     fn totals(&mut self, rule: u64) {
-        let answer = self.run_as_checked().totals(self.number(rule));
+        let answer = self.run_as_checked(b'o').totals(self.number(rule));
         let mut rest = [0; 12];
         if let Ok(mut totals) = answer {
             if self.has(Mistake::TotalsWithoutOpen) {
                 totals.activations -= totals.open;
             }
             self.add_zero(self.number(rule), &mut totals);
-            let four = [
-                totals.activations,
-                totals.fulfilled,
-                totals.violated,
-                totals.open,
-            ];
-            for (place, total) in rest[4..].chunks_mut(2).zip(four) {
-                place.copy_from_slice(&(total as u16).to_le_bytes());
-            }
+            rest[4..].copy_from_slice(&totals_bytes(totals));
         }
         self.answer(answer.err(), rest);
     }
@@ -603,6 +665,7 @@ impl State {
                 if self.has(Mistake::ReadsIdleAtZero) {
                     run.overall.fill(Standing::Idle);
                 }
+                self.change_totals(b'N', &mut run);
                 self.run = run;
                 None
             }
@@ -681,7 +744,13 @@ fn run_bytes(run: &Record) -> Vec<u8> {
     for standing in run.standings.iter().chain(&run.overall) {
         bytes.extend(standing_bytes(*standing));
     }
+    bytes.extend(run.totals.map(totals_bytes).concat());
     bytes
+}
+
+fn totals_bytes(totals: Totals) -> [u8; 8] {
+    let bytes = totals.numbers().map(u16::to_le_bytes).concat();
+    bytes.try_into().expect("four numbers of 16 bits")
 }
 
 fn condition_bytes(condition: &ConditionSlot) -> Vec<u8> {

@@ -1,6 +1,6 @@
 //! Rules about the cycle as such: position 0, live, closed, from texts, and in
 //! records that no call grew. `probe` is needed with the commands on tables and
-//! runs, z, N, v and p.
+//! runs, z, N, v, p, A, b and B.
 
 use differential::cases::causes::{overall_allowed, overall_base, overall_causes};
 use differential::cases::overall::{case, listed_case, stale_case, LISTED};
@@ -84,7 +84,7 @@ fn each_cause_of_11() {
     let cases = (0..).zip(runs);
     let counts = agree(&Probe::find(), cases.map(|(n, run)| cause_case(n, run)));
     assert_eq!(counts.answered('e', 11), 4 * number);
-    for letter in ['e', 'x', 'g', 'o'] {
+    for letter in ['e', 'x', 'g', 'o', 'b'] {
         assert_eq!(counts.numbers(letter), [11]);
     }
     assert!(misfits >= 36, "{misfits}");

@@ -71,6 +71,7 @@ fn full_run(standing: Filling) -> Record {
     run.count = 256;
     let cells = run.standings.iter_mut().enumerate();
     cells.for_each(|(cell, place)| *place = standing(cell));
+    run.count_totals();
     run
 }
 

@@ -95,6 +95,7 @@ fn short_case(number: u64, rules: &[Rule], cycle: &[Event]) -> Case {
     }
     session.close().expect("a run that is not closed");
     session.compare_standings();
+    session.all_totals();
     session.case
 }
 

@@ -59,6 +59,15 @@ fn cause_cases() -> Vec<Case> {
     causes.chain(allowed).collect()
 }
 
+fn totals_cases() -> Vec<Case> {
+    let causes = [causes::miscounted(false), causes::miscounted(true)].concat();
+    let causes = (0..).zip(causes).step_by(5);
+    let causes = causes.map(|(number, (_, run))| records::cause_case(number, run));
+    let allowed = (0..).zip(causes::unread_totals(false)).step_by(5);
+    let allowed = allowed.map(|(number, (_, run))| records::allowed_case(number, run));
+    causes.chain(allowed).collect()
+}
+
 fn rules_cases() -> Vec<Case> {
     (1..=100).map(texts::rules_case).collect()
 }
@@ -139,6 +148,7 @@ fn the_evaluator_agrees_with_itself() {
         record_cases(),
         stale_cases(),
         cause_cases(),
+        totals_cases(),
         rules_cases(),
         cycle_cases(),
         pair_cases(),
@@ -162,12 +172,13 @@ fn the_evaluator_agrees_with_itself() {
         assert!(accepted > 0 && counts.calls(letter) > accepted, "{letter}");
     }
     assert!(counts.dumps('z') > 300, "{counts}");
+    assert!(counts.miscounted > 100, "{counts}");
 }
 
 /// A mistake, and the cases that have to find it.
 type Finder = (Mistake, fn() -> Vec<Case>);
 
-const FINDERS: [Finder; 124] = [
+const FINDERS: [Finder; 162] = [
     (Mistake::NeverOpen, running_cases),
     (Mistake::JudgesAnew, stale_cases),
     (Mistake::JudgesAnew, crowded_stale_cases),
@@ -291,6 +302,44 @@ const FINDERS: [Finder; 124] = [
     (Mistake::PrintsNoZero, overall_cases),
     (Mistake::PrintsNoZero, printed_cases),
     (Mistake::PrintsNoZero, reported_cases),
+    (Mistake::StartsWithNoTotals, overall_cases),
+    (Mistake::StartsWithNoTotals, running_cases),
+    (Mistake::StartsWithNoTotals, notebook_cases),
+    (Mistake::CountsBeforeJudging, running_cases),
+    (Mistake::CountsBeforeJudging, overall_cases),
+    (Mistake::CountsBeforeJudging, stale_cases),
+    (Mistake::CountsByDifference, stale_cases),
+    (Mistake::CountsByDifference, crowded_stale_cases),
+    (Mistake::ClosesWithOldTotals, running_cases),
+    (Mistake::ClosesWithOldTotals, overall_cases),
+    (Mistake::ClosesWithOldTotals, stale_cases),
+    (Mistake::ClosesWithOldTotals, notebook_cases),
+    (Mistake::ReadsNoTotals, pair_cases),
+    (Mistake::ReadsNoTotals, overall_cases),
+    (Mistake::ReadsNoTotals, notebook_cases),
+    (Mistake::ClearsUnusedTotals, totals_cases),
+    (Mistake::ClearsUnusedTotals, record_cases),
+    (Mistake::CorrectsRefused, totals_cases),
+    (Mistake::CorrectsRefused, record_cases),
+    (Mistake::ChecksUnusedTotals, totals_cases),
+    (Mistake::ChecksUnusedTotals, record_cases),
+    (Mistake::ChecksActivationsAlone, totals_cases),
+    (Mistake::ChecksActivationsAlone, record_cases),
+    (Mistake::ChecksActivationsAlone, tally_cases),
+    (Mistake::ChecksActivationsAlone, written_cause_cases),
+    (Mistake::ChecksActivationsAlone, reported_cause_cases),
+    (Mistake::ClosedBeforeTotals, totals_cases),
+    (Mistake::TakesMiscounted, totals_cases),
+    (Mistake::TakesMiscounted, record_cases),
+    (Mistake::ClosesMiscounted, totals_cases),
+    (Mistake::ShowsMiscounted, totals_cases),
+    (Mistake::AnswersMiscounted, totals_cases),
+    (Mistake::AbsorbsMiscounted, totals_cases),
+    (Mistake::AbsorbsMiscounted, tally_cases),
+    (Mistake::WritesMiscounted, written_cause_cases),
+    (Mistake::WritesMiscounted, written_cases),
+    (Mistake::ReportsMiscounted, reported_cause_cases),
+    (Mistake::ReportsMiscounted, reported_cases),
     (Mistake::EndsEarly, running_cases),
 ];
 

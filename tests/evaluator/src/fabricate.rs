@@ -5,6 +5,7 @@ use crate::model::{Comparison, Event, Operator, Reference, Standing};
 use crate::random::{random_cycle, random_rules, Random};
 use crate::record::{grown, place, Record};
 use crate::slots::{ConditionSlot, RuleSlot, EVENT_SLOTS, RULE_SLOTS};
+use crate::totals::Totals;
 
 /// A part of a record that a change is made in.
 #[derive(Debug, Clone, Copy, PartialEq, Eq, PartialOrd, Ord, Hash)]
@@ -17,10 +18,12 @@ pub enum Part {
     RuleSlot,
     RuleCount,
     Closed,
+    /// The stored totals.
+    Totals,
 }
 
 impl Part {
-    pub const ALL: [Part; 7] = [
+    pub const ALL: [Part; 8] = [
         Part::Standing,
         Part::Overall,
         Part::EventSlot,
@@ -28,8 +31,13 @@ impl Part {
         Part::RuleSlot,
         Part::RuleCount,
         Part::Closed,
+        Part::Totals,
     ];
 }
+
+/// One record in so many keeps its totals when other parts are changed. In most
+/// of them these are counted anew, else they would be the cause of most refusals.
+const UNCOUNTED: usize = 8;
 
 /// A record grown from start with random rules and up to `longest` events, now
 /// and then closed.
@@ -46,20 +54,40 @@ pub fn random_record(random: &mut Random, longest: usize) -> Record {
 
 /// The record with `changes` random changes.
 pub fn fabricated(random: &mut Random, mut record: Record, changes: usize) -> Record {
-    for _ in 0..changes {
-        let parts = [
-            Part::Standing,
-            Part::Standing,
-            Part::Overall,
-            Part::EventSlot,
-        ];
-        let part = match random.one_in(2) {
-            true => random.pick(&parts),
-            false => random.pick(&Part::ALL),
-        };
-        change(random, &mut record, part);
-    }
+    let parts = (0..changes).map(|_| random_part(random)).collect();
+    change_all(random, &mut record, parts);
     record
+}
+
+fn random_part(random: &mut Random) -> Part {
+    let parts = [
+        Part::Standing,
+        Part::Standing,
+        Part::Overall,
+        Part::EventSlot,
+        Part::Totals,
+        Part::Totals,
+    ];
+    match random.one_in(2) {
+        true => random.pick(&parts),
+        false => random.pick(&Part::ALL),
+    }
+}
+
+/// Makes a change in each of these parts. Those of the totals come last, so that
+/// they are not counted away.
+pub fn change_all(random: &mut Random, record: &mut Record, parts: Vec<Part>) {
+    let is_other = |part: &Part| *part != Part::Totals;
+    let (others, totals): (Vec<Part>, Vec<Part>) = parts.into_iter().partition(is_other);
+    for part in others {
+        change(random, record, part);
+    }
+    if !random.one_in(UNCOUNTED) {
+        record.count_totals();
+    }
+    for part in totals {
+        change(random, record, part);
+    }
 }
 
 /// Sets one field of a part to an edge value; it may be the value it had.
@@ -80,6 +108,7 @@ pub fn change(random: &mut Random, record: &mut Record, part: Part) {
             record.table.count = edge_count(random, record.table.count, RULE_SLOTS as u64);
         }
         Part::Closed => record.closed = !record.closed,
+        Part::Totals => change_totals(random, record),
     }
 }
 
@@ -125,6 +154,20 @@ fn change_event(random: &mut Random, record: &mut Record) {
             record.events[at].readings[random.below(4)] = random.pick(&values);
         }
     }
+}
+
+/// One of the four numbers of a slot becomes one more or less, that of the number
+/// beside it, or one at the limits of a count or of 16 bits.
+fn change_totals(random: &mut Random, record: &mut Record) {
+    let totals = &mut record.totals[near(random, record.table.count, RULE_SLOTS) - 1];
+    let place = random.below(4);
+    let numbers = totals.numbers();
+    let (now, beside) = (numbers[place], numbers[(place + 1) % 4]);
+    let number = match random.one_in(2) {
+        true => random.pick(&[now.wrapping_add(1), now.wrapping_sub(1)]),
+        false => random.pick(&[beside, 0, 256, 257, 65_535]),
+    };
+    *totals = totals.with_number(place, number);
 }
 
 /// Counts beside the limit and the count itself, and such as become small when
@@ -183,8 +226,9 @@ fn random_reference(random: &mut Random) -> Reference {
 }
 
 /// Fills what no call reads with values outside every limit: the slots past
-/// the counts, the rows of rules that the table does not have, and position 0 of
-/// these and of the rules 1 to 12. The counts have to be within their limits.
+/// the counts, the rows and totals of rules that the table does not have, and
+/// position 0 of these and of the rules 1 to 12. The counts have to be within their
+/// limits.
 pub fn fill_unused(random: &mut Random, record: &mut Record) {
     let rules = record.table.count as usize;
     let events = record.count as usize;
@@ -210,6 +254,9 @@ pub fn fill_unused(random: &mut Random, record: &mut Record) {
     ];
     for standing in &mut record.standings[rules * EVENT_SLOTS..] {
         *standing = random.pick(&junk);
+    }
+    for totals in &mut record.totals[rules..] {
+        *totals = Totals::with_numbers([(); 4].map(|()| random.bits() as u16));
     }
     fill_unread_overall(random, record);
 }

@@ -18,7 +18,8 @@
 //! - [`refusal`]: [`Refusal`], a number and perhaps a line.
 //! - [`slots`]: rule tables as a caller may fill them ([`TableRecord`]).
 //! - [`record`]: run records as a caller may fill them ([`Record`]), with
-//!   [`start`], take, close, standing and totals.
+//!   [`start`], take, close, standing and totals, [`totals`]: the four numbers that
+//!   they store of each rule ([`Totals`]).
 //! - [`text`]: the readers and writers of the two texts, [`natural`]: the values of
 //!   numbers of any length.
 //! - [`written`]: [`write_rules_of`] and [`write_cycle_of`] write the texts of a
@@ -61,6 +62,7 @@ pub mod slots;
 pub mod stored;
 pub mod tally;
 pub mod text;
+pub mod totals;
 pub mod verdict;
 pub mod written;
 
@@ -68,11 +70,12 @@ pub use live::{outcomes_in, standing, standing_at_last, standing_in, standings};
 pub use model::{is_cycle, Comparison, Event, Operator, Reference, Rule, Standing, World};
 pub use notebook::{notebook, notebook_record, Row, Text};
 pub use overall::{fitting, overall_verdict};
-pub use record::{grown, place, start, Record, Totals};
+pub use record::{grown, place, start, Record};
 pub use refusal::Refusal;
 pub use report::{printed, report, report_of};
 pub use slots::{ConditionSlot, EventSlot, RuleSlot, TableRecord};
 pub use tally::{absorb, Tally};
 pub use text::{read_cycle, read_rules, write_cycle, write_rules};
+pub use totals::Totals;
 pub use verdict::{eligible, is_activation, suits, verdict, verdicts};
 pub use written::{print_texts, write_cycle_of, write_report_of, write_rules_of};

@@ -2,7 +2,7 @@
 //! rules and events.
 
 use crate::model::{Comparison, Event, Operator, Rule, Standing};
-use crate::record::{place, Record};
+use crate::record::{grown, place, Record};
 
 pub const RULES: &str = "2\t1\t2\t0\t500\t-\t-\n6\t3\t2\t0\t-\t-\t1=@1:0\n";
 pub const CYCLE: &str = "0\t1\t7\t-\t-\t-\n400\t2\t7\t-\t-\t-\n400\t3\t7\t-\t-\t-\n\
@@ -24,8 +24,27 @@ pub fn events() -> Vec<Event> {
     events.to_vec()
 }
 
-/// Changes of its run, not closed, each of which is a cause of 11.
-pub const CAUSES: [fn(&mut Record); 12] = [
+/// Its run with each cause of 11 alone.
+pub fn with_causes() -> Vec<Record> {
+    let run = grown(&rules(), &events());
+    let caused = CAUSES.iter().map(|change| {
+        let mut run = run.clone();
+        change(&mut run);
+        run.count_totals();
+        run
+    });
+    let miscounted = (0..2).flat_map(|slot| (0..4).map(move |place| (slot, place)));
+    let miscounted = miscounted.map(|(slot, place)| {
+        let mut run = run.clone();
+        let number = run.totals[slot].numbers()[place];
+        run.totals[slot] = run.totals[slot].with_number(place, number + 1);
+        run
+    });
+    caused.chain(miscounted).collect()
+}
+
+/// Changes, each of which is a cause of 11 also if the totals fit the standings.
+const CAUSES: [fn(&mut Record); 12] = [
     |run| run.standings[place(1, 1)] = Standing::Fulfilled(7),
     |run| run.standings[place(2, 6)] = Standing::Violated(65_535),
     |run| run.standings[place(1, 7)] = Standing::Open,

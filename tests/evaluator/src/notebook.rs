@@ -61,6 +61,7 @@ pub fn notebook_record(rules: &[u8], cycle: &[u8]) -> Result<Record, (Text, Refu
         record.standings[first..first + row.events.len()].copy_from_slice(&row.events);
         record.overall[index] = row.overall.unwrap_or(Standing::Idle);
     }
+    record.count_totals();
     Ok(record)
 }
 

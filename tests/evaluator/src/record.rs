@@ -5,12 +5,21 @@
 //! decided standings, which are kept. The rows of rules that the table does not
 //! have are neither read nor changed, nor is position 0 of these and of the
 //! rules 1 to 12.
+//!
+//! Card 5 of document 02: "The run is to store all four per rule, and totals
+//! answers with them. Every call that makes or changes a run keeps them equal to
+//! the counts that document 01 defines. A record whose stored totals differ from
+//! its standings is refused as 11." So a call that is accepted counts them anew,
+//! in one place, whatever was stored before: a take may judge any undecided
+//! standing of a record that no call gave back. The totals of rules that the table
+//! does not have are neither read nor changed.
 
 use crate::live;
 use crate::model::{is_cycle, Event, Rule, Standing, World};
 use crate::overall::overall_verdict;
 use crate::refusal::Refusal;
 use crate::slots::{EventSlot, TableRecord, EVENT_SLOTS, RULE_SLOTS};
+use crate::totals::Totals;
 
 /// A run: "Each run value carries its own events and standings".
 #[derive(Debug, Clone, PartialEq, Eq)]
@@ -25,15 +34,8 @@ pub struct Record {
     pub standings: Vec<Standing>,
     /// Position 0 of each rule slot: under 13 to 16 the "one standing per run".
     pub overall: [Standing; RULE_SLOTS],
-}
-
-/// "Totals are four numbers": each the count of such positions.
-#[derive(Debug, Clone, Copy, PartialEq, Eq, Default)]
-pub struct Totals {
-    pub activations: u64,
-    pub fulfilled: u64,
-    pub violated: u64,
-    pub open: u64,
+    /// The stored totals of each rule slot.
+    pub totals: [Totals; RULE_SLOTS],
 }
 
 /// Where the standing of a rule (1 to 16) at a position (1 to 256) is kept.
@@ -43,7 +45,8 @@ pub fn place(rule: usize, position: usize) -> usize {
 
 /// "Start copies the table and gives a run not closed, with no events, each
 /// event slot at time 0, activity 1 and blank readings, each standing idle." But
-/// the one of a rule 13 to 16 is "judged from start on".
+/// the one of a rule 13 to 16 is "judged from start on", and counted. The totals
+/// of rules that the table does not have are 0.
 pub fn start(table: &TableRecord) -> Result<Record, Refusal> {
     let rules = table.rules().ok_or(Refusal::plain(11))?;
     let mut run = Record {
@@ -53,8 +56,10 @@ pub fn start(table: &TableRecord) -> Result<Record, Refusal> {
         events: vec![Event::new(0, 1); EVENT_SLOTS],
         standings: vec![Standing::Idle; RULE_SLOTS * EVENT_SLOTS],
         overall: [Standing::Idle; RULE_SLOTS],
+        totals: [Totals::default(); RULE_SLOTS],
     };
     run.judge_overall(&rules, |rule| live::standing_at_last(rule, &[], 0));
+    run.count_totals();
     Ok(run)
 }
 
@@ -93,7 +98,37 @@ impl Record {
             true => self.overall_is_right(number, count),
             false => self.row_is_right(number, count),
         });
-        (is_cycle(&World::DOCUMENT, events) && rows_right).then_some((rules, count))
+        let right = is_cycle(&World::DOCUMENT, events) && rows_right && self.totals_are_right();
+        right.then_some((rules, count))
+    }
+
+    /// Not "A record whose stored totals differ from its standings".
+    fn totals_are_right(&self) -> bool {
+        (1..=self.rule_count()).all(|rule| self.totals[rule - 1] == self.counted(rule))
+    }
+
+    /// Stores the totals of each rule of the table, as its standings have them.
+    /// The totals of the other slots stay.
+    pub fn count_totals(&mut self) {
+        for rule in 1..=self.rule_count() {
+            self.totals[rule - 1] = self.counted(rule);
+        }
+    }
+
+    /// The totals of a rule as its standings have them: those at the taken
+    /// positions, and under 13 to 16 the one at position 0.
+    fn counted(&self, rule: usize) -> Totals {
+        let taken = usize::try_from(self.count).map_or(EVENT_SLOTS, |n| n.min(EVENT_SLOTS));
+        let mut standings = self.row(rule)[..taken].to_vec();
+        if (13..=16).contains(&self.table.rules[rule - 1].code) {
+            standings.push(self.overall[rule - 1]);
+        }
+        Totals::of(&standings)
+    }
+
+    /// The rules of the table, or as many as there are slots.
+    fn rule_count(&self) -> usize {
+        usize::try_from(self.table.count).map_or(RULE_SLOTS, |n| n.min(RULE_SLOTS))
     }
 
     /// Not "a record idle at 0 or not idle at an event"; its target and an open
@@ -125,6 +160,7 @@ impl Record {
                 self.events[count] = event;
                 self.count += 1;
                 self.judge_undecided(&rules, count + 1);
+                self.count_totals();
                 (self, Ok(()))
             }
         }
@@ -188,6 +224,7 @@ impl Record {
                 // "Close decides an open one by its formula."
                 let events = self.events[..count].to_vec();
                 self.judge_overall(&rules, |rule| overall_verdict(rule, &events));
+                self.count_totals();
                 self.closed = true;
                 (self, Ok(()))
             }
@@ -215,23 +252,11 @@ impl Record {
         Ok(self.standings[place(rule, position)])
     }
 
-    /// The totals of a rule: "activations (positions not idle ..), fulfilled,
-    /// violated, open, each the count of such positions". Under 13 to 16 position
-    /// 0 is one of them.
+    /// The stored totals of a rule: "totals answers with them".
     pub fn totals(&self, rule: u64) -> Result<Totals, Refusal> {
-        let (rules, count) = self.checked()?;
+        let (rules, _) = self.checked()?;
         let rule = known(rule, rules.len())?;
-        let mut taken = self.row(rule)[..count].to_vec();
-        if rules[rule - 1].is_overall() {
-            taken.push(self.overall[rule - 1]);
-        }
-        let number = |such: fn(&Standing) -> bool| taken.iter().filter(|s| such(s)).count() as u64;
-        Ok(Totals {
-            activations: number(|s| *s != Standing::Idle),
-            fulfilled: number(|s| s.is_fulfilled()),
-            violated: number(|s| s.is_violated()),
-            open: number(|s| *s == Standing::Open),
-        })
+        Ok(self.totals[rule - 1])
     }
 }
 

@@ -31,6 +31,6 @@ pub fn absorb(record: &Record, rule: u64, tally: &mut Tally) -> Result<(), Refus
 }
 
 /// "a tally field would pass 4294967295"
-fn sum(field: u32, added: u64) -> Result<u32, Refusal> {
-    u32::try_from(u64::from(field) + added).map_err(|_| Refusal::plain(14))
+fn sum(field: u32, added: u16) -> Result<u32, Refusal> {
+    u32::try_from(u64::from(field) + u64::from(added)).map_err(|_| Refusal::plain(14))
 }

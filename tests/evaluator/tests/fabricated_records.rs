@@ -4,8 +4,8 @@
 use evaluator::fabricate::{fabricated, fill_unused, random_event, random_record};
 use evaluator::random::Random;
 use evaluator::Standing::{self, Fulfilled, Idle, Open, Violated};
-use evaluator::{absorb, place, start, write_cycle_of, write_rules_of};
-use evaluator::{ConditionSlot, Record, Reference, Refusal, Row, RuleSlot, Tally};
+use evaluator::{absorb, place, start, write_cycle_of, write_report_of, write_rules_of};
+use evaluator::{ConditionSlot, Record, Reference, Refusal, Row, RuleSlot, Tally, Totals};
 use std::collections::BTreeMap;
 
 const OUTSIDE: Refusal = Refusal::plain(11);
@@ -66,22 +66,59 @@ fn wrong_standing(record: &Record, position: u64, standing: Standing) -> bool {
     }
 }
 
-/// Cause 11, as one question after the other.
-fn is_outside(record: &Record) -> bool {
-    if wrong_table(record) || record.count > 256 || wrong_events(record) {
-        return true;
+fn wrong_standings(record: &Record, rule: usize) -> bool {
+    let overall = record.table.rules[rule - 1].code > 12;
+    let at_0 = record.overall[rule - 1];
+    let wrong_at_0 = overall && (at_0 == Idle || wrong_standing(record, 0, at_0));
+    wrong_at_0
+        || (1..=256).any(|position| {
+            let standing = record.standings[place(rule, position)];
+            let idle = standing == Idle;
+            overall && !idle || wrong_standing(record, position as u64, standing)
+        })
+}
+
+/// The totals of a rule, one standing after the other. Position 0 of a rule 13 to
+/// 16 is one of its positions.
+fn totals_of(record: &Record, rule: usize) -> Totals {
+    let overall = record.table.rules[rule - 1].code > 12;
+    let mut totals = Totals::default();
+    for position in usize::from(!overall)..=record.count as usize {
+        let standing = match position {
+            0 => record.overall[rule - 1],
+            _ => record.standings[place(rule, position)],
+        };
+        let kind = match standing {
+            Idle => continue,
+            Open => &mut totals.open,
+            Fulfilled(_) => &mut totals.fulfilled,
+            Violated(_) => &mut totals.violated,
+        };
+        *kind += 1;
+        totals.activations += 1;
     }
-    (1..=record.table.count as usize).any(|rule| {
-        let overall = record.table.rules[rule - 1].code > 12;
-        let at_0 = record.overall[rule - 1];
-        let wrong_at_0 = overall && (at_0 == Idle || wrong_standing(record, 0, at_0));
-        wrong_at_0
-            || (1..=256).any(|position| {
-                let standing = record.standings[place(rule, position)];
-                let idle = standing == Idle;
-                overall && !idle || wrong_standing(record, position as u64, standing)
-            })
-    })
+    totals
+}
+
+fn wrong_totals(record: &Record, rule: usize) -> bool {
+    record.totals[rule - 1] != totals_of(record, rule)
+}
+
+fn any_rule(record: &Record, wrong: fn(&Record, usize) -> bool) -> bool {
+    (1..=record.table.count as usize).any(|rule| wrong(record, rule))
+}
+
+/// Cause 11 but for the totals, as one question after the other.
+fn is_outside_otherwise(record: &Record) -> bool {
+    wrong_table(record)
+        || record.count > 256
+        || wrong_events(record)
+        || any_rule(record, wrong_standings)
+}
+
+/// Cause 11.
+fn is_outside(record: &Record) -> bool {
+    is_outside_otherwise(record) || any_rule(record, wrong_totals)
 }
 
 fn random_fabricated(random: &mut Random) -> Record {
@@ -96,11 +133,12 @@ fn random_fabricated(random: &mut Random) -> Record {
 #[test]
 fn every_call_refuses_the_same_records_with_11() {
     let mut random = Random::new(41);
-    let mut seen = [0; 2];
+    let (mut seen, mut by_totals) = ([0; 2], 0);
     for _ in 0..4000 {
         let record = random_fabricated(&mut random);
         let outside = is_outside(&record);
         seen[usize::from(outside)] += 1;
+        by_totals += usize::from(outside && !is_outside_otherwise(&record));
         let event = random_event(&mut random, &record);
         let mut tally = Tally::default();
         let rule = random.bits() % 4;
@@ -112,6 +150,8 @@ fn every_call_refuses_the_same_records_with_11() {
             absorb(&record, rule, &mut tally).err(),
             write_cycle_of(&record, &mut [0; 16_000]).err(),
             write_cycle_of(&record, &mut []).err(),
+            write_report_of(&record, &mut [0; 16_000]).err(),
+            write_report_of(&record, &mut []).err(),
         ];
         for answer in answers {
             assert_eq!(answer == Some(OUTSIDE), outside, "{answers:?}");
@@ -126,6 +166,7 @@ fn every_call_refuses_the_same_records_with_11() {
         }
     }
     assert!(seen.iter().all(|count| *count > 1000), "{seen:?}");
+    assert!(by_totals > 200, "{by_totals}");
 }
 
 #[test]
@@ -166,9 +207,9 @@ fn refusals_of_take_come_in_their_order() {
     assert!(seen[&None] > 500, "{seen:?}");
 }
 
-/// What an accepted take may change: the count, one event slot, and the
-/// undecided standings of the table's rules up to the new count, position 0 of
-/// the rules about the cycle among them.
+/// What an accepted take may change: the count, one event slot, the undecided
+/// standings of the table's rules up to the new count, position 0 of the rules
+/// about the cycle among them, and the totals of these rules, which fit.
 #[test]
 fn take_changes_nothing_else() {
     let mut random = Random::new(43);
@@ -194,10 +235,44 @@ fn take_changes_nothing_else() {
             if before.table.rules[rule - 1].code > 12 && before.overall[rule - 1] == Open {
                 expected.overall[rule - 1] = after.overall[rule - 1];
             }
+            expected.totals[rule - 1] = totals_of(&after, rule);
         }
         assert!(after == expected);
     }
     assert!(accepted > 500, "{accepted}");
+}
+
+/// What an accepted close may change: the phase, the open standings of the table's
+/// rules, and the totals of these rules, which fit.
+#[test]
+fn close_changes_nothing_else() {
+    let mut random = Random::new(48);
+    let (mut accepted, mut turned) = (0, 0);
+    for _ in 0..3000 {
+        let before = random_fabricated(&mut random);
+        let (after, answer) = before.clone().close();
+        if answer.is_err() {
+            continue;
+        }
+        accepted += 1;
+        let mut expected = before.clone();
+        expected.closed = true;
+        for rule in 1..=before.table.count as usize {
+            for at in place(rule, 1)..=place(rule, 256) {
+                if before.standings[at] == Open {
+                    expected.standings[at] = after.standings[at];
+                }
+            }
+            if before.table.rules[rule - 1].code > 12 && before.overall[rule - 1] == Open {
+                expected.overall[rule - 1] = after.overall[rule - 1];
+            }
+            expected.totals[rule - 1] = totals_of(&after, rule);
+            assert_eq!(after.totals[rule - 1].open, 0);
+            turned += before.totals[rule - 1].open;
+        }
+        assert!(after == expected);
+    }
+    assert!(accepted > 500 && turned > 300, "{accepted} {turned}");
 }
 
 /// Without decided standings a record is judged by its events alone: closing it
@@ -218,6 +293,7 @@ fn undecided_records_close_with_the_finished_verdicts() {
         }
         // A rule about the cycle is not idle there.
         record.overall = record.overall.map(|s| if s == Idle { s } else { Open });
+        record.count_totals();
         let event = random_event(&mut random, &record);
         let (next, answer) = record.take(event);
         if answer.is_err() {
@@ -257,20 +333,20 @@ fn totals_and_tally_agree_with_the_standings() {
             assert_eq!(row.len() as u64, record.count + u64::from(overall));
             let totals = record.totals(rule).expect("totals");
             let number = |kind: fn(Standing) -> bool| row.iter().filter(|s| kind(**s)).count();
-            assert_eq!(totals.open, number(|s| s == Open) as u64);
-            assert_eq!(totals.fulfilled, number(Standing::is_fulfilled) as u64);
-            assert_eq!(totals.violated, number(Standing::is_violated) as u64);
+            assert_eq!(totals.open, number(|s| s == Open) as u16);
+            assert_eq!(totals.fulfilled, number(Standing::is_fulfilled) as u16);
+            assert_eq!(totals.violated, number(Standing::is_violated) as u16);
             let sum = totals.fulfilled + totals.violated + totals.open;
             assert_eq!(totals.activations, sum);
             let mut tally = Tally::default();
             let absorbed = absorb(&record, rule, &mut tally).is_ok();
             assert_eq!(absorbed, record.closed);
             let expected = if absorbed {
-                (1, totals.activations)
+                (1, u32::from(totals.activations))
             } else {
                 (0, 0)
             };
-            assert_eq!((tally.cycles, u64::from(tally.activations)), expected);
+            assert_eq!((tally.cycles, tally.activations), expected);
             counted += row.len();
         }
     }

@@ -101,6 +101,7 @@ fn close_decides_by_the_formula() {
 fn close_judges_an_open_one_that_no_call_left_open() {
     let mut record = run(&[(0, 9), (1, 1), (2, 2), (3, 1)]);
     record.overall[..4].fill(Open);
+    record.count_totals();
     let expected = [Fulfilled(2), Violated(2), Fulfilled(2), Violated(2)];
     assert_eq!(at_0(&close(record)), expected);
 }
@@ -111,9 +112,11 @@ fn take_carries_over_what_is_decided_and_judges_the_rest() {
     let mut record = run(&[(0, 9), (1, 1), (2, 9)]);
     let wrong = [Violated(3), Fulfilled(0), Violated(0), Fulfilled(3)];
     record.overall[..4].copy_from_slice(&wrong);
+    record.count_totals();
     assert_eq!(at_0(&take(record.clone(), 3, 2)), wrong);
     assert_eq!(at_0(&close(record.clone())), wrong);
     record.overall[..4].fill(Open);
+    record.count_totals();
     let judged = [Fulfilled(2), Violated(2), Fulfilled(2), Violated(2)];
     assert_eq!(at_0(&take(record.clone(), 3, 2)), judged);
     let one_sided = [Fulfilled(2), Violated(2), Fulfilled(2), Open];
@@ -140,13 +143,8 @@ fn position_0_is_asked_for_under_13_to_16_alone() {
     }
 }
 
-fn totals(activations: u64, fulfilled: u64, violated: u64, open: u64) -> Totals {
-    Totals {
-        activations,
-        fulfilled,
-        violated,
-        open,
-    }
+fn totals(activations: u16, fulfilled: u16, violated: u16, open: u16) -> Totals {
+    Totals::with_numbers([activations, fulfilled, violated, open])
 }
 
 /// "its total activations is 1, so the sum .. hold for it too"
@@ -290,9 +288,11 @@ fn base(closed: bool) -> Record {
     }
 }
 
+/// Whether it is refused with a change and with totals that fit it.
 fn changed(closed: bool, change: impl FnOnce(&mut Record)) -> bool {
     let mut record = base(closed);
     change(&mut record);
+    record.count_totals();
     is_outside(&record)
 }
 

@@ -4,7 +4,7 @@
 use evaluator::damage::{damaged_cycle_text, damaged_rules_text};
 use evaluator::damage::{random_cycle_text, random_rules_text};
 use evaluator::fabricate::{fill_unused, random_record};
-use evaluator::listing::{self, CAUSES, CYCLE, PRINTED, RULES};
+use evaluator::listing::{self, CYCLE, PRINTED, RULES};
 use evaluator::random::Random;
 use evaluator::stored::stored_texts;
 use evaluator::Standing::{self, Fulfilled, Idle, Open, Violated};
@@ -33,6 +33,7 @@ fn run_with(rules: usize, events: usize, standings: &[Standing]) -> Record {
     for (cell, standing) in standings.iter().enumerate() {
         run.standings[place(cell / events + 1, cell % events + 1)] = *standing;
     }
+    run.count_totals();
     run
 }
 
@@ -144,6 +145,7 @@ fn numbers_of_one_two_and_three_digits() {
     ] {
         run.standings[place(rule, position)] = standing;
     }
+    run.count_totals();
     let text = report_text(&run);
     let lines: Vec<&str> = text.lines().collect();
     let none = [2, 3, 4, 5, 6, 7, 8].map(|rule| format!("total\t{rule}\t0\t0\t0"));
@@ -188,12 +190,10 @@ fn no_rules_print_nothing() {
 /// 11 comes before 15 and leaves the buffer as it was, whatever its size.
 #[test]
 fn the_whole_run_is_checked() {
-    for (number, change) in CAUSES.into_iter().enumerate() {
-        let mut run = run_of(6);
-        change(&mut run);
+    for (number, run) in listing::with_causes().iter().enumerate() {
         for size in [0, PRINTED.len() - 1, PRINTED.len(), 200] {
             let expected = (Err(OUTSIDE), buffer(size));
-            assert_eq!(report_into(&run, size), expected, "{number}");
+            assert_eq!(report_into(run, size), expected, "{number}");
         }
     }
 }

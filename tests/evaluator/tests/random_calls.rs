@@ -38,9 +38,9 @@ fn row(record: &Record, rule: usize) -> Row {
 }
 
 /// Whether each event of a row is an activation, and how many positions are.
-fn activations(rule: &Rule, taken: &[Event]) -> (Vec<bool>, u64) {
+fn activations(rule: &Rule, taken: &[Event]) -> (Vec<bool>, u16) {
     let fits: Vec<bool> = taken.iter().map(|e| is_activation(rule, e)).collect();
-    let fitting = fits.iter().filter(|fits| **fits).count() as u64;
+    let fitting = fits.iter().filter(|fits| **fits).count() as u16;
     match rule.code {
         // "position 0, in place of events, is its one activation"
         13..=16 => (vec![false; taken.len()], 1),

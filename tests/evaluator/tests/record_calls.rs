@@ -196,6 +196,7 @@ fn sixteen_rules_and_256_positions_can_be_asked_for() {
     let events: Vec<Event> = (0..256).map(|t| Event::new(t, 9)).collect();
     let mut run = grown(&vec![rule(); 16], &events);
     run.standings[place(16, 256)] = Violated(256);
+    run.count_totals();
     assert_eq!(run.standing(16, 256), Ok(Violated(256)));
     assert_eq!(run.standing(1, 1), Ok(Idle));
     assert_eq!(run.standing(17, 1), Err(Refusal::plain(10)));
@@ -209,6 +210,7 @@ fn a_refused_take_does_not_judge_anew() {
     let mut record = short();
     record.standings[place(1, 1)] = Open;
     record.standings[place(1, 2)] = Idle;
+    record.count_totals();
     for event in [WRONG, EARLY] {
         refused_take(&record, event);
     }

@@ -1,6 +1,7 @@
 //! Cause 11: "record or table outside the limits above, times falling in it, a
 //! target above its event count, a standing of one of its rules not idle past
-//! that count, or open in a closed run".
+//! that count, or open in a closed run". In all of these the stored totals fit the
+//! standings; those that do not are in record_totals.
 
 use evaluator::Operator::{Equal, Less};
 use evaluator::Standing::{self, Fulfilled, Idle, Open, Violated};
@@ -21,9 +22,18 @@ fn run() -> Record {
     grown(&[plain(), plain()], &events)
 }
 
+/// The run with a change, and with totals that fit it.
 fn changed(change: impl FnOnce(&mut Record)) -> Record {
-    let mut record = run();
+    with_change(run(), change)
+}
+
+fn changed_closed(change: impl FnOnce(&mut Record)) -> Record {
+    with_change(run().close().0, change)
+}
+
+fn with_change(mut record: Record, change: impl FnOnce(&mut Record)) -> Record {
     change(&mut record);
+    record.count_totals();
     record
 }
 
@@ -289,9 +299,8 @@ fn standings_past_the_event_count_are_idle() {
         for rule in [1, 2] {
             for position in [4, 256] {
                 assert!(is_outside(&with_standing(rule, position, standing)));
-                let mut closed = run().close().0;
-                closed.standings[place(rule, position)] = standing;
-                assert!(is_outside(&closed));
+                let at = place(rule, position);
+                assert!(is_outside(&changed_closed(|r| r.standings[at] = standing)));
             }
         }
     }
@@ -303,9 +312,8 @@ fn a_closed_run_has_no_open_standing() {
     for rule in [1, 2] {
         for position in [1, 2, 3] {
             assert!(!is_outside(&with_standing(rule, position, Open)));
-            let mut closed = run().close().0;
-            closed.standings[place(rule, position)] = Open;
-            assert!(is_outside(&closed));
+            let at = place(rule, position);
+            assert!(is_outside(&changed_closed(|r| r.standings[at] = Open)));
         }
     }
 }
@@ -316,9 +324,8 @@ fn rows_of_rules_that_the_table_does_not_have_are_not_checked() {
         for rule in [3, 16] {
             for position in [1, 3, 4, 256] {
                 assert!(!is_outside(&with_standing(rule, position, standing)));
-                let mut closed = run().close().0;
-                closed.standings[place(rule, position)] = standing;
-                assert!(!is_outside(&closed));
+                let at = place(rule, position);
+                assert!(!is_outside(&changed_closed(|r| r.standings[at] = standing)));
             }
         }
     }

@@ -132,13 +132,8 @@ fn listing() -> Record {
     grown(&rules, &events)
 }
 
-fn totals(activations: u64, fulfilled: u64, violated: u64, open: u64) -> Totals {
-    Totals {
-        activations,
-        fulfilled,
-        violated,
-        open,
-    }
+fn totals(activations: u16, fulfilled: u16, violated: u16, open: u16) -> Totals {
+    Totals::with_numbers([activations, fulfilled, violated, open])
 }
 
 #[test]
@@ -170,6 +165,7 @@ fn totals_count_what_a_fabricated_record_says() {
     record.standings[place(1, 4)] = Open;
     // Neither rows past the table nor slots past the count are counted.
     record.standings[place(2, 1)] = Fulfilled(1);
+    record.count_totals();
     assert_eq!(record.totals(1), Ok(totals(3, 1, 1, 1)));
 }
 
@@ -182,6 +178,7 @@ fn close_turns_open_into_violated_for_1_to_7_and_fulfilled_for_8_to_12() {
         record.standings[place(rule, 2)] = Fulfilled(3);
         record.standings[place(rule, 3)] = Violated(4);
     }
+    record.count_totals();
     let record = close(record);
     for rule in 1..=12 {
         let closed = if rule <= 7 { Violated(0) } else { Fulfilled(0) };
@@ -197,6 +194,7 @@ fn close_judges_nothing_anew() {
     let mut record = run(&plain(2), &pairs(&[(0, 1), (1, 2), (2, 9)]));
     record.standings[place(1, 1)] = Idle;
     record.standings[place(1, 3)] = Open;
+    record.count_totals();
     assert_eq!(row(&close(record)), [Idle, Idle, Violated(0)]);
 }
 
@@ -208,6 +206,7 @@ fn decided_standings_are_carried_over_right_or_wrong() {
     record.standings[place(1, 3)] = Fulfilled(0);
     record.standings[place(1, 4)] = Violated(1);
     record.standings[place(1, 5)] = Fulfilled(5);
+    record.count_totals();
     let record = take(take(record, 5, 2), 6, 1);
     let kept = [Violated(5), Idle, Fulfilled(0), Violated(1), Fulfilled(5)];
     assert_eq!(row(&record), [&kept[..], &[Idle, Open]].concat());
@@ -226,6 +225,7 @@ fn undecided_standings_follow_from_the_events_in_the_record() {
         for position in 1..=4 {
             record.standings[place(1, position)] = stale;
         }
+        record.count_totals();
         let next = take(record.clone(), 32, 9);
         let expected = [Fulfilled(2), Idle, Violated(0), Open, Idle];
         assert_eq!(row(&next), expected);
@@ -241,12 +241,14 @@ fn a_take_names_the_nearest_only_where_it_judges() {
     for kept in [1, 2, 4, 5].map(Fulfilled) {
         let mut record = record.clone();
         record.standings[place(1, 3)] = kept;
+        record.count_totals();
         let expected = [Idle, Idle, kept, Idle, Idle, Fulfilled(5)];
         assert_eq!(row(&take(record, 5, 1)), expected);
     }
     for stale in [Idle, Open] {
         let mut record = record.clone();
         record.standings[place(1, 3)] = stale;
+        record.count_totals();
         let expected = [Idle, Idle, Fulfilled(2), Idle, Idle, Fulfilled(5)];
         assert_eq!(row(&take(record, 5, 1)), expected);
     }
@@ -256,6 +258,7 @@ fn a_take_names_the_nearest_only_where_it_judges() {
 fn a_stale_open_at_no_activation_becomes_idle() {
     let mut record = run(&plain(2), &pairs(&[(0, 9), (0, 1)]));
     record.standings[place(1, 1)] = Open;
+    record.count_totals();
     assert_eq!(row(&take(record, 0, 9)), [Idle, Open, Idle]);
 }
 
@@ -284,6 +287,7 @@ fn a_lowered_count_forgets_the_events_past_it() {
     let mut record = run(&plain(2), &pairs(&[(0, 1), (5, 2), (9, 9)]));
     record.count = 1;
     record.standings[place(1, 1)] = Open;
+    record.count_totals();
     let next = take(record.clone(), 3, 9);
     assert_eq!(row(&next), [Open, Idle]);
     assert_eq!(next.events[1], Event::new(3, 9));
@@ -296,6 +300,7 @@ fn a_raised_rule_count_takes_in_the_next_row() {
     record.table.rules[1] = record.table.rules[0];
     record.table.count = 2;
     record.standings[place(2, 2)] = Violated(2);
+    record.count_totals();
     let next = take(record, 0, 9);
     let second: Vec<Standing> = (1..=3).flat_map(|p| next.standing(2, p)).collect();
     assert_eq!(second, [Fulfilled(2), Violated(2), Idle]);

@@ -113,6 +113,7 @@ fn a_fabricated_run_is_added_as_its_standings_say() {
     record.standings[place(2, 2)] = Violated(0);
     record.standings[place(2, 3)] = Violated(3);
     assert_eq!(record.standings[place(2, 4)], Idle);
+    record.count_totals();
     let mut day = Tally::default();
     assert_eq!(absorb(&record, 2, &mut day), Ok(()));
     assert_eq!(day, tally(1, 3, 1, 2));

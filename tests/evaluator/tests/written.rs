@@ -2,7 +2,7 @@
 //! "with the length returned and the bytes beyond it untouched".
 
 use evaluator::fabricate::{fill_unused, spread_numbers};
-use evaluator::listing::{self, CAUSES, CYCLE, RULES};
+use evaluator::listing::{self, CYCLE, RULES};
 use evaluator::random::{random_cycle, random_rules, Random};
 use evaluator::stored::stored_texts;
 use evaluator::Operator::{self, Equal, Greater, GreaterOrEqual, Less, LessOrEqual, NotEqual};
@@ -128,15 +128,13 @@ fn a_run_is_written_alike_running_closed_and_from_the_notebook() {
     }
 }
 
-/// What 11 names, though it is not written: standings, the run's table, and what
-/// else is outside the limits.
+/// What 11 names, though it is not written: standings, totals, the run's table, and
+/// what else is outside the limits.
 #[test]
 fn the_whole_run_is_checked() {
-    for (number, change) in CAUSES.into_iter().enumerate() {
-        let mut run = run();
-        change(&mut run);
+    for (number, run) in listing::with_causes().iter().enumerate() {
         for size in [0, CYCLE.len(), 200] {
-            assert_eq!(cycle_into(&run, size), refused(OUTSIDE, size), "{number}");
+            assert_eq!(cycle_into(run, size), refused(OUTSIDE, size), "{number}");
         }
     }
 }
@@ -148,6 +146,7 @@ fn stale_standings_do_not_matter() {
     run.standings[place(1, 1)] = Idle;
     run.standings[place(1, 2)] = Open;
     run.standings[place(2, 3)] = Violated(6);
+    run.count_totals();
     assert_eq!(cycle_text(&run), CYCLE);
 }
 

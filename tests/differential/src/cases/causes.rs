@@ -1,9 +1,10 @@
 //! Each cause of 11 alone, and the same values where they are no cause. Those of
-//! rules about the cycle have a run of their own.
+//! rules about the cycle have a run of their own. Where the totals are not the
+//! cause, they fit the standings.
 
 use evaluator::Operator::{Equal, Less};
 use evaluator::Standing::{self, Fulfilled, Idle, Open, Violated};
-use evaluator::{grown, place, Comparison, ConditionSlot, Event, Record, Rule, RuleSlot};
+use evaluator::{grown, place, Comparison, ConditionSlot, Event, Record, Rule, RuleSlot, Totals};
 
 /// A run with a name for what is wrong in it, or beside the limits.
 pub type Named = (String, Record);
@@ -47,6 +48,18 @@ impl Changed {
     fn add(&mut self, name: String, change: impl FnOnce(&mut Record)) {
         let mut run = self.base.clone();
         change(&mut run);
+        run.count_totals();
+        self.add_run(name, run);
+    }
+
+    fn add_totals(&mut self, slot: usize, totals: Totals) {
+        let name = format!("{totals:?} in slot {slot}");
+        let mut run = self.base.clone();
+        run.totals[slot] = totals;
+        self.add_run(name, run);
+    }
+
+    fn add_run(&mut self, name: String, run: Record) {
         assert!(run != self.base, "{name} changes nothing");
         self.runs.push((name, run));
     }
@@ -59,7 +72,12 @@ impl Changed {
 
 /// Every cause of 11, alone in a run.
 pub fn causes(closed: bool) -> Vec<Named> {
-    [causes_of_events(closed), overall_causes(closed)].concat()
+    [
+        causes_of_events(closed),
+        overall_causes(closed),
+        miscounted(closed),
+    ]
+    .concat()
 }
 
 /// Those of rules 1 to 12.
@@ -194,7 +212,12 @@ fn standing_causes(changed: &mut Changed) {
 /// Values at the limits, and values outside of them where nothing reads them.
 /// None of these is a cause of 11.
 pub fn allowed(closed: bool) -> Vec<Named> {
-    [allowed_of_events(closed), overall_allowed(closed)].concat()
+    [
+        allowed_of_events(closed),
+        overall_allowed(closed),
+        unread_totals(closed),
+    ]
+    .concat()
 }
 
 /// Those of rules 1 to 12.
@@ -387,4 +410,74 @@ fn allowed_at_0(changed: &mut Changed, rule: usize) {
     for standing in others {
         changed.add_at_0(rule, standing);
     }
+}
+
+/// A response and a not response within 10, each with an activation that is
+/// fulfilled, one that is violated and one that is open until it is closed.
+fn counted_base(closed: bool) -> Record {
+    let rules = [2, 9].map(|code| Rule::new(code, 1, 2, 0, Some(10)));
+    let events = [(0, 1), (5, 2), (20, 1), (31, 1)];
+    let run = grown(&rules, &events.map(|(time, x)| Event::new(time, x)));
+    match closed {
+        true => run.close().0,
+        false => run,
+    }
+}
+
+/// Stored totals of one of its rules that differ from the standings, in runs of
+/// both kinds.
+pub fn miscounted(closed: bool) -> Vec<Named> {
+    let of_rules = |base: Record| {
+        let runs = Vec::new();
+        let rules = base.table.count as usize;
+        let mut changed = Changed { base, runs };
+        for slot in 0..rules {
+            miscount(&mut changed, slot);
+        }
+        changed.runs
+    };
+    let bases = [counted_base(closed), overall_base(closed)];
+    bases.map(of_rules).concat()
+}
+
+/// Each of the four numbers one more, one less, and such as have most bits right;
+/// and one position counted as another, so that the sum is right.
+fn miscount(changed: &mut Changed, slot: usize) {
+    let totals = changed.base.totals[slot];
+    let numbers = totals.numbers();
+    for (place, right) in numbers.into_iter().enumerate() {
+        let wrong = [
+            right + 1,
+            right.wrapping_sub(1),
+            right ^ 256,
+            right ^ 32_768,
+        ];
+        for number in wrong {
+            changed.add_totals(slot, totals.with_number(place, number));
+        }
+    }
+    for (from, to) in [(1, 2), (2, 1), (1, 3), (3, 1), (2, 3), (3, 2)] {
+        if numbers[from] > 0 {
+            let fewer = totals.with_number(from, numbers[from] - 1);
+            changed.add_totals(slot, fewer.with_number(to, numbers[to] + 1));
+        }
+    }
+}
+
+/// Any totals of rules that the table does not have. None of these is a cause of
+/// 11.
+pub fn unread_totals(closed: bool) -> Vec<Named> {
+    let past_rules = |base: Record| {
+        let runs = Vec::new();
+        let past = base.table.count as usize;
+        let mut changed = Changed { base, runs };
+        for slot in [past, past + 1, 15] {
+            for numbers in [[1, 0, 0, 0], [0, 0, 0, 1], [2, 1, 1, 0], [65_535; 4]] {
+                changed.add_totals(slot, Totals::with_numbers(numbers));
+            }
+        }
+        changed.runs
+    };
+    let bases = [base(closed), overall_base(closed)];
+    bases.map(past_rules).concat()
 }

@@ -5,7 +5,7 @@ use crate::cases::notebook::read_again;
 use crate::cases::records::{call, with_any_standings, FILLED};
 use crate::cases::running::{ask_standing, refused_event};
 use crate::script::{table_of, Case, Session};
-use evaluator::fabricate::{change, fill_unused, Part};
+use evaluator::fabricate::{change_all, fill_unused, Part};
 use evaluator::random::{random_cycle, random_event_rule, random_overall_rule, Random};
 use evaluator::{printed, report_of, write_cycle, write_rules};
 use evaluator::{Event, Record, Refusal, Rule};
@@ -141,8 +141,8 @@ fn carried_case(seed: u64, run: Record, events: &[Event]) -> Case {
     session.case
 }
 
-/// Perhaps refused: position 0, a standing, the count or the phase is changed; any
-/// answer will do.
+/// Perhaps refused: position 0, a standing, the count, the phase or a total is
+/// changed; any answer will do.
 fn changed_case(seed: u64, random: &mut Random, mut run: Record) -> Case {
     let parts = [
         Part::Overall,
@@ -151,11 +151,12 @@ fn changed_case(seed: u64, random: &mut Random, mut run: Record) -> Case {
         Part::EventCount,
         Part::RuleSlot,
         Part::Closed,
+        Part::Totals,
     ];
-    for _ in 0..1 + random.below(2) {
-        let part = random.pick(&parts);
-        change(random, &mut run, part);
-    }
+    let parts = (0..1 + random.below(2))
+        .map(|_| random.pick(&parts))
+        .collect();
+    change_all(random, &mut run, parts);
     let mut session = Session::on(STALE, seed, run);
     session.compare_run();
     for _ in 0..2 + random.below(4) {

@@ -7,7 +7,7 @@ use evaluator::fabricate::{fabricated, fill_unread_overall, fill_unused};
 use evaluator::fabricate::{random_event, random_record};
 use evaluator::random::{random_cycle, random_rules, Random};
 use evaluator::Standing::{Fulfilled, Idle, Open, Violated};
-use evaluator::{place, start, Event, Record, Refusal, Rule};
+use evaluator::{place, start, Event, Record, Refusal, Rule, Tally};
 
 /// One record in so many is filled with values outside every limit where
 /// nothing reads them. This takes thousands of commands.
@@ -121,8 +121,9 @@ pub fn stale_run(random: &mut Random, rules: usize, length: usize) -> Record {
     with_any_standings(random, &rules, &events)
 }
 
-/// The run of these rules and events with any standings within the limits. In
-/// every second run position 0 has any standing also where nothing reads it.
+/// The run of these rules and events with any standings within the limits, and
+/// totals that fit them. In every second run position 0 has any standing also where
+/// nothing reads it.
 pub(super) fn with_any_standings(random: &mut Random, rules: &[Rule], events: &[Event]) -> Record {
     let length = events.len();
     let mut run = start(&table_of(rules)).expect("a valid table");
@@ -144,6 +145,7 @@ pub(super) fn with_any_standings(random: &mut Random, rules: &[Rule], events: &[
     if random.one_in(2) {
         fill_unread_overall(random, &mut run);
     }
+    run.count_totals();
     run
 }
 
@@ -157,8 +159,16 @@ fn next_event(random: &mut Random, run: &Record) -> Event {
     event
 }
 
+/// A tally that no run goes into.
+const FULL: Tally = Tally {
+    cycles: u32::MAX,
+    activations: u32::MAX,
+    fulfilled: u32::MAX,
+    violated: u32::MAX,
+};
+
 /// A record with one cause of 11: every call is refused with it, also where 9,
-/// 10, 3 or 7 would be next, and nothing changes.
+/// 10, 3, 7 or 14 would be next, and nothing changes.
 pub fn cause_case(number: u64, run: Record) -> Case {
     let outside = Err(Refusal::plain(11));
     let mut session = Session::on(WRITTEN, number, run);
@@ -175,8 +185,10 @@ pub fn cause_case(number: u64, run: Record) -> Case {
         let answer = session.standing(rule, position);
         assert_eq!(answer.map(|_| ()), outside);
     }
+    session.set_tally(FULL);
     for rule in [1, 2, 0, 3, u64::MAX] {
         assert_eq!(session.totals(rule), outside);
+        assert_eq!(session.absorb(rule), outside);
     }
     session.compare_run();
     // Start reads the table alone.

@@ -56,8 +56,8 @@ fn rule_number(random: &mut Random, run: &Record) -> u64 {
 /// A tally whose fields are small, or reach their limit, or pass it by 1.
 fn near_limits(random: &mut Random, run: &Record, rule: u64) -> Tally {
     let totals = run.totals(rule).unwrap_or_default();
-    let mut field = |added: u64| {
-        let added = added as u32;
+    let mut field = |added: u16| {
+        let added = u32::from(added);
         let near = [
             LARGEST,
             LARGEST - 1,
@@ -83,9 +83,8 @@ fn near_limits(random: &mut Random, run: &Record, rule: u64) -> Tally {
 /// and the largest.
 pub fn edge_cases(seed: u64, run: &Record, rule: u64) -> Case {
     let totals = run.totals(rule).expect("a rule of the run");
-    let edges = |added: u64| {
-        let added = added as u32;
-        let last = LARGEST - added;
+    let edges = |added: u16| {
+        let last = LARGEST - u32::from(added);
         [0, last, last.saturating_add(1), LARGEST - 1, LARGEST]
     };
     let mut session = Session::on(WRITTEN, seed, run.clone());

@@ -5,7 +5,6 @@ use super::{Mistake, State};
 use crate::command::kind_and_target;
 use evaluator::{fitting, overall_verdict, place, read_rules, standing, standing_at_last, start};
 use evaluator::{Event, Record, Refusal, Rule, Standing, Totals};
-use std::borrow::Cow;
 
 impl State {
     /// The run that start gives.
@@ -22,6 +21,7 @@ impl State {
         if self.has(Mistake::StartsIdle) {
             run.overall.fill(Standing::Idle);
         }
+        self.change_totals(b's', &mut run);
         Ok(run)
     }
 
@@ -98,9 +98,10 @@ impl State {
         self.has(Mistake::ChecksEveryZero) && others.any(|(_, cell)| cell != Standing::Idle)
     }
 
-    /// The run without what a mistake takes for no cause of 11.
-    pub(super) fn run_as_checked(&self) -> Cow<'_, Record> {
-        let mut run = Cow::Borrowed(&self.run);
+    /// The run as standing or totals sees it, without what a mistake takes for no
+    /// cause of 11.
+    pub(super) fn run_as_checked(&self, letter: u8) -> Record {
+        let mut run = self.seen_by(letter);
         let overall = |index: usize| self.run.table.rules[index].code >= 13;
         let count = self.run.count.min(256) as u16;
         for index in (0..16).filter(|index| overall(*index)) {
@@ -112,11 +113,13 @@ impl State {
                 _ => false,
             };
             if allowed {
-                run.to_mut().overall[index] = Standing::Violated(0);
+                run.overall[index] = Standing::Violated(0);
+                run.count_totals();
             }
             if self.has(Mistake::AllowsStandingsAtEvents) {
                 let row = place(index + 1, 1)..=place(index + 1, 256);
-                run.to_mut().standings[row].fill(Standing::Idle);
+                run.standings[row].fill(Standing::Idle);
+                run.count_totals();
             }
         }
         run
@@ -130,10 +133,10 @@ impl State {
             return;
         }
         let cell = self.run.overall[at];
-        totals.activations += u64::from(cell != Standing::Idle);
-        totals.fulfilled += u64::from(cell.is_fulfilled());
-        totals.violated += u64::from(cell.is_violated());
-        totals.open += u64::from(cell == Standing::Open);
+        totals.activations += u16::from(cell != Standing::Idle);
+        totals.fulfilled += u16::from(cell.is_fulfilled());
+        totals.violated += u16::from(cell.is_violated());
+        totals.open += u16::from(cell == Standing::Open);
     }
 
     /// What is read of a rules text.

@@ -29,7 +29,7 @@ impl State {
     }
 
     pub(super) fn report_text(&self) -> Result<Vec<u8>, Refusal> {
-        let mut run = self.run.clone();
+        let mut run = self.seen_by(b'v');
         if self.has(Mistake::ReportsUncheckedStandings) {
             let count = usize::try_from(run.count).unwrap_or(EVENT_SLOTS);
             let cells = run.standings.iter_mut().enumerate();

@@ -39,9 +39,10 @@ impl State {
             Source::Cycle if self.has(Mistake::WritesUncheckedStandings) => {
                 let mut run = self.run.clone();
                 run.standings.fill(Standing::Idle);
+                run.count_totals();
                 write_cycle_of(&run, buffer)
             }
-            Source::Cycle => write_cycle_of(&self.run, buffer),
+            Source::Cycle => write_cycle_of(&self.seen_by(b'W'), buffer),
             Source::Report => put(&self.report_text()?, buffer),
             Source::Texts(rules, cycle) => put(&self.printed_text(rules, cycle), buffer),
         }

@@ -1,8 +1,9 @@
--- The places passed so far are judged; a jump to the next row passes places that are not in use.
+-- The places passed so far are judged and counted; a jump to the next row passes places that are
+-- not in use.
 -- Counts past what the arrays hold mean no more than all they hold.
 use borrow.Author.Needs.{needs}
 use borrow.Author.Tests.{not-false}
-use mathlib.Core.Path.{_≡_, sym, subst, ap₂, _∙_}
+use mathlib.Core.Path.{_≡_, sym, ap, ap₂, subst, subst₂, _∙_}
 use mathlib.Core.List.{List}
 use mathlib.Core.Logic.{⊎-elim}
 use Prim.Native.Nat.{ℕ, _+_, _-_, _*_, _≤_, _<_}
@@ -16,7 +17,10 @@ use Rattle.declare.proofs.Booleans.{neither}
 use Rattle.declare.proofs.Sweeps.{Swept, swept-none, swept-again, swept-kept, swept-skip, swept-all}
 use Rattle.standings.specs.declared.Cell.{Cell}
 use Rattle.standings.specs.Places.{places, idleCell, changedCell, changed}
+use Rattle.standings.specs.declared.totals.Totals.{Totals}
+use Rattle.standings.specs.Totals.{rowTotals}
 use Rattle.standings.proofs.Places.{row-rest, rules-rest}
+use Rattle.standings.proofs.Counting.{Counting, counting-none, counting-rest, counting-idle, counting-set, counting-all}
 use Rattle.judge.specs.Cells.{judgedAt, judgedCells}
 use Rattle.judge.proofs.ByColumn.{shown-activities}
 use Rattle.declare.proofs.Carried.{only-idle}
@@ -25,10 +29,13 @@ use Rattle.judge.proofs.cells.judge_cells.Statement.{statement}
 use Rattle.judge.proofs.cells.judge_cells.Tie as tie
 
 abbrev Inv-loop : tie.InvT-loop
-Inv-loop running n horizon table events cells₀ rows width columns flags end j₀ cells j = (j ≤ rows * mostEvents) × Swept (changedCell (judgedAt running table (take n events) horizon) rows width) cells₀ cells j
+Inv-loop running n horizon table events cells₀ totals₀ rows width columns flags end j₀ cells totals j =
+    (j ≤ rows * mostEvents)
+    × Swept (changedCell (judgedAt running table (take n events) horizon) rows width) cells₀ cells j
+    × Counting width cells totals₀ totals j
 
 abbrev μ-loop : tie.MeasureT-loop
-μ-loop running n horizon table events cells₀ rows width columns flags end j₀ cells j = rows * mostEvents - j
+μ-loop running n horizon table events cells₀ totals₀ rows width columns flags end j₀ cells totals j = rows * mostEvents - j
 
 min-requires : tie.Need-min-requires Inv-loop μ-loop
 min-requires c κs = search needs
@@ -45,11 +52,18 @@ flags-of-requires c κs =
     let width = c .before .before .before .min2 in
     (omega (arith, rows .ensures), omega (arith, width .ensures), shown-activities (c .before .before .columns-of .ensures))
 
+-- one slot a rule
+slots : (c : tie.Start Inv-loop μ-loop) → length (c .args .t7) ≡ mostRules
+slots c = search (needs, c .good .1 .1 .1 .1 .1 .1 .0)
+
 mul-end : tie.Need-mul-end Inv-loop μ-loop
 mul-end c = search needs
 
 loop-holds : tie.Need-loop-holds Inv-loop μ-loop
-loop-holds c = (omega arith, swept-none _ _)
+loop-holds c =
+    let start = c .before .before .before .before .before .before in
+    let full : length (start .args .t6) ≡ places = search (needs, start .good .1 .1 .1 .1 .1 .0) in
+    (omega arith, swept-none _ _, counting-none _ _ _ full (slots start))
 
 sub-j : tie.Need-sub-j Inv-loop μ-loop
 sub-j c = search needs
@@ -67,7 +81,11 @@ loop-again c =
     let l = at .loop in
     let rows = at .before .before .before .before .before .before .min in
     let width = at .before .before .before .before .before .min2 in
-    (omega arith, swept-skip (l .inv .1) _ (omega arith) (λ i b d x. cell-unused _ _ _ i x (row-rest (rows .result) (width .result) (l .j) i (omega arith) b d)))
+    let few : width .result ≤ mostEvents = omega (arith, width .ensures) in (
+      omega arith,
+      swept-skip (l .inv .1) _ (omega arith) (λ i b d x. cell-unused _ _ _ i x (row-rest (rows .result) (width .result) (l .j) i (omega arith) b d)),
+      counting-rest (l .inv .2) few (omega arith) _ (omega arith) (omega arith),
+    )
 
 -- a place in use
 placed : (c : tie.Else1 Inv-loop μ-loop) → let s = c .before .before .before in
@@ -138,6 +156,21 @@ mul-cells c = search needs
 array-set-from-cells : tie.Need-array-set-from-cells Inv-loop μ-loop
 array-set-from-cells c = search needs
 
+mul-t : tie.Need-mul-t Inv-loop μ-loop
+mul-t c = search needs
+
+array-copy-out-t : tie.Need-array-copy-out-t Inv-loop μ-loop
+array-copy-out-t c = search needs
+
+with-standing-requires : tie.Need-with-standing-requires Inv-loop μ-loop
+with-standing-requires c κs = search needs
+
+mul-totals : tie.Need-mul-totals Inv-loop μ-loop
+mul-totals c = search needs
+
+array-set-from-totals : tie.Need-array-set-from-totals Inv-loop μ-loop
+array-set-from-totals c = search needs
+
 add-j-2 : tie.Need-add-j-2 Inv-loop μ-loop
 add-j-2 c = search needs
 
@@ -155,15 +188,22 @@ loop-again-2 c =
     let before = getD (l .cells) (l .j) idleCell in
     let rows = here .before .before .before .before .before .before .before .before .min in
     let low : l .j < places = omega (arith, rows .ensures) in
-    let width = here .before .before .before .before .before .before .before .min2 .result in
-    let f : ℕ → Cell → Cell = changedCell (judgedAt (a .running) (a .t2) (take (a .n) (a .t3)) (a .horizon)) (rows .result) width in (
+    let width = here .before .before .before .before .before .before .before .min2 in
+    let few : width .result ≤ mostEvents = omega (arith, width .ensures) in
+    let f : ℕ → Cell → Cell = changedCell (judgedAt (a .running) (a .t2) (take (a .n) (a .t3)) (a .horizon)) (rows .result) (width .result) in
+    ⊎-elim
+    (λ w. (
       omega arith,
-      ⊎-elim
-          (λ w. subst (λ (u : List Cell). Swept f (a .t6) u (l .j + 1)) (sym (w .10)) (swept-again (l .inv .1) idleCell (omega arith) (judged-cell (placed here) (a .running) (a .horizon) before (w .9 .ensures))))
-          (λ w. let none = neither _ _ (w .0 .left) in
-          subst (λ (u : List Cell). Swept f (a .t6) u (l .j + 1)) (sym (w .1)) (swept-kept (l .inv .1) idleCell (omega arith) (idle-stays (placed here) (a .running) (a .horizon) before (none .0) (only-idle _ (sym (c .before .is-idle .ensures) ∙ not-false _ (none .1))))))
-          (c .if2 .came),
-    )
+      subst (λ (u : List Cell). Swept f (a .t6) u (l .j + 1)) (sym (w .12)) (swept-again (l .inv .1) idleCell (omega arith) (judged-cell (placed here) (a .running) (a .horizon) before (w .9 .ensures))),
+      subst₂ (λ (u : List Cell) (v : List Totals). Counting (width .result) u (a .t7) v (l .j + 1)) (sym (w .12)) (sym (w .13)) (counting-set (l .inv .2) few low (omega arith) _ (w .11 .ensures)),
+    ))
+    (λ w. let none = neither _ _ (w .0 .left) in
+    let idle = only-idle _ (sym (c .before .is-idle .ensures) ∙ not-false _ (none .1)) in (
+      omega arith,
+      subst (λ (u : List Cell). Swept f (a .t6) u (l .j + 1)) (sym (w .1)) (swept-kept (l .inv .1) idleCell (omega arith) (idle-stays (placed here) (a .running) (a .horizon) before (none .0) idle)),
+      subst₂ (λ (u : List Cell) (v : List Totals). Counting (width .result) u (a .t7) v (l .j + 1)) (sym (w .1)) (sym (w .2)) (counting-idle (l .inv .2) few low idle),
+    ))
+    (c .if2 .came)
 
 returns : tie.Need-returns Inv-loop μ-loop
 unfolding judgedCells changed
@@ -177,9 +217,13 @@ returns c =
     let full : length (a .t6) ≡ places = search (needs, start .good .1 .1 .1 .1 .1 .0) in
     let few : rows .result ≤ mostRules = omega (arith, rows .ensures) in
     let f : ℕ → ℕ → Standing → Standing = judgedAt (a .running) (a .t2) (take (a .n) (a .t3)) (a .horizon) in
-    swept-all (swept-skip (l .inv .1) places (omega arith) (λ i b d x. cell-unused _ _ _ i x (rules-rest (rows .result) (width .result) i (omega arith)))) (omega arith)
-    ∙ ap₂ (λ (x y : ℕ). changed f x y (a .t6)) (rows .ensures) (width .ensures)
-    ∙ within-arrays f (a .t2 .count) (a .n) (a .t6) full
+    let most : width .result ≤ mostEvents = omega (arith, width .ensures) in (
+      swept-all (swept-skip (l .inv .1) places (omega arith) (λ i b d x. cell-unused _ _ _ i x (rules-rest (rows .result) (width .result) i (omega arith)))) (omega arith)
+          ∙ ap₂ (λ (x y : ℕ). changed f x y (a .t6)) (rows .ensures) (width .ensures)
+          ∙ within-arrays f (a .t2 .count) (a .n) (a .t6) full,
+      counting-all (l .inv .2) most (a .t2 .count) (slots start) (omega (arith, rows .ensures))
+          ∙ ap (λ (n : ℕ). rowTotals (a .t2 .count) n (l .cells) (a .t7)) (width .ensures),
+    )
 
 pub judge-cells-spec : {M : Type 1} → statement M
 judge-cells-spec =
@@ -213,6 +257,11 @@ judge-cells-spec =
     judge-requires
     mul-cells
     array-set-from-cells
+    mul-t
+    array-copy-out-t
+    with-standing-requires
+    mul-totals
+    array-set-from-totals
     add-j-2
     loop-less-2
     loop-again-2
