@@ -31,7 +31,7 @@ use Rattle.run.specs.Close.{closedRun}
 use Rattle.run.specs.Queries.{isPosition, standingOf, totalsOf}
 use Rattle.run.specs.Takes.{grown, running, finished, RunOf, Answers}
 use Rattle.run.proofs.Places.{overall-rule, no-rule, zero-overall}
-use Rattle.run.proofs.Answered.{position-within}
+use Rattle.run.proofs.Answered.{totals-counted, position-within}
 use Rattle.run.proofs.Takes.{takes}
 use Rattle.run.proofs.Grown.{finished-is-grown}
 use Rattle.cycle_text.specs.Written.{eventsText}
@@ -74,9 +74,11 @@ module _ (q r : Run) (s : Alike q r) where
   same-standing (suc k) i = rw (s .left, s .right, s .about (suc k) (omega arith), s .rules, s .events, s .cells, s .overall)
 
   same-totals : (k : ℕ) → totalsOf q k ≡ totalsOf r k
-  unfolding totalsOf totalsBy positionsOf zeroIn _>>_ require
-  same-totals zero = rw (s .left, s .right) refl
-  same-totals (suc k) = rw (s .left, s .right, s .about (suc k) (omega arith), s .rules, s .events, s .cells, s .overall)
+  unfolding totalsBy positionsOf zeroIn _>>_ require
+  same-totals zero = rw (totals-counted q 0, totals-counted r 0) (rw (s .left, s .right) refl)
+  same-totals (suc k) =
+      rw (totals-counted q (suc k), totals-counted r (suc k))
+      (rw (s .left, s .right, s .about (suc k) (omega arith), s .rules, s .events, s .cells, s .overall))
 
 module _ (t : Table) (offered : List Event) (slots : length (t .rules) ≡ mostRules) (valid : validTable t ≡ true) where
   abbrev es : List Event

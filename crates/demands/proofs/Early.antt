@@ -142,7 +142,7 @@ module _ (r : Run) (e : Event) (size : Sized r) (next : Run) (t : Taken r e next
   next-size : Sized (appended r e)
   unfolding appended
   next-size =
-      record { rules = size .rules; events = length-set (r .events) (r .count) e ∙ size .events; cells = size .cells; overall = size .overall }
+      record { rules = size .rules; events = length-set (r .events) (r .count) e ∙ size .events; cells = size .cells; overall = size .overall; totals = size .totals }
 
   module _ (k i : ℕ) (w : InCycle (now .table) (eventsOf now) k i) where
     rule : Rule

@@ -14,7 +14,7 @@ use Rattle.declare.specs.Slots.{eventSlots, tableOf}
 use Rattle.declare.proofs.Tables.{table-rules}
 use Rattle.run.specs.declared.Run.{Run}
 use Rattle.run.specs.Records.{eventsOf, validRun}
-use Rattle.run.specs.Start.{newRun}
+use Rattle.run.specs.Start.{idleRun}
 use Rattle.run.specs.Close.{finishedRun}
 use Rattle.run.proofs.Answered.{valid-cycle}
 use Rattle.run.proofs.Grown.{finished-events}
@@ -89,7 +89,7 @@ rules-again text read h o =
     rw (rules-read text read h rs e .1) (table-out text rs e)
 
 notebook-again : (rules cycle : List ℕ) (r : Run) → notebookOf rules cycle ≡ readAs r → ComesOut rules (WritesRules (r .table)) × ComesOut cycle (WritesCycle r)
-unfolding finishedRun newRun
+unfolding finishedRun idleRun
 notebook-again rules cycle r e =
     let f = read-from rules cycle r e in (
       rw (f .run) (table-out rules (f .rs) (f .rules-read)),

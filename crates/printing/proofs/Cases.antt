@@ -10,7 +10,7 @@ use Rattle.line.specs.Fields.{onto, split, eachAfter, joined}
 use Rattle.line.specs.Texts.{lineAfter, linesOf, textOf, writtenLine, writtenText}
 use Rattle.standings.specs.Places.{standingFrom, standingIn, overallIn, zeroIn, withZero}
 use Rattle.standings.specs.Totals.{positionsOf, totalsBy}
-use Rattle.run.specs.Start.{newRun}
+use Rattle.run.specs.Start.{idleRun}
 use Rattle.run.specs.Close.{finishedRun}
 use Rattle.cycle_text.specs.Cycle.{cycleTextOf}
 use Rattle.rule_text.specs.Rules.{rulesTextOf}
@@ -20,5 +20,5 @@ use Rattle.printing.specs.Report.{positionLines, linesUpTo, eventLines, 
 use Rattle.printing.specs.Cases.{reports, texts, replies, Checked}
 
 pub checked : Checked
-unfolding isOverall ruleAt isOverallRule overallIn zeroIn withZero eventLines reports texts replies lineFields positionLines linesUpTo activationLines totalOf ruleLines reportLines reportOf wordOf replyLines printedLines printedOf readWith finishedOf notebookOf rulesTextOf cycleTextOf lineAfter linesOf textOf writtenLine writtenText onto split eachAfter joined digitsIn digitsOf none countBelow positionsOf totalsBy standingFrom standingIn padded tableOf newRun finishedRun
+unfolding isOverall ruleAt isOverallRule overallIn zeroIn withZero eventLines reports texts replies lineFields positionLines linesUpTo activationLines totalOf ruleLines reportLines reportOf wordOf replyLines printedLines printedOf readWith finishedOf notebookOf rulesTextOf cycleTextOf lineAfter linesOf textOf writtenLine writtenText onto split eachAfter joined digitsIn digitsOf none countBelow positionsOf totalsBy standingFrom standingIn padded tableOf idleRun finishedRun
 checked = record { of-reports = refl; of-texts = refl; of-replies = refl }

@@ -1,6 +1,6 @@
 -- What standing and totals answer for a valid run, and what an answer says of the record.
 use mathlib.Core.Path.{_≡_, refl, sym, ap, _∙_}
-use mathlib.Core.Bool.{true, _&&_, _||_}
+use mathlib.Core.Bool.{Bool, true, false, _&&_, _||_}
 use mathlib.Core.List.{List}
 use Prim.Native.Nat.{ℕ, zero, suc, _≤_, zero-le}
 use native.Mathlib.Omega.{arith}
@@ -16,10 +16,10 @@ use Rattle.declare.proofs.Zero.{activation-zero}
 use Rattle.declare.specs.Lists.{all}
 use Rattle.declare.specs.Limits.{mostEvents}
 use Rattle.declare.specs.Events.{wellFormed, nonFalling}
-use Rattle.declare.specs.Answers.{accepted}
+use Rattle.declare.specs.Answers.{accepted, _>>_, require}
 use Rattle.declare.specs.Steps.{Cycle}
 use Rattle.declare.proofs.Answers.{of-of, required, passed}
-use Rattle.declare.proofs.Booleans.{and-left, both, or-left, and₃}
+use Rattle.declare.proofs.Booleans.{and-left, both, or-left, and₂, and₃}
 use Rattle.run.specs.declared.Run.{Run}
 use Rattle.run.specs.Records.{eventsOf, standingAt, totalsIn, validEvents, validRun}
 use Rattle.run.specs.Queries.{oneOf, isPosition, standingOf, totalsOf}
@@ -35,6 +35,18 @@ module _ (r : Run) (k : ℕ) where
   unfolding totalsOf
   totals-found v a b =
       passed 11 _ v ∙ passed 10 _ (one-of-is (r .table .count) k a b) ∙ ap accepted (stored-is-counted r v k a b)
+
+  -- totals answers with the counts
+  pub totals-counted : totalsOf r k ≡ (require (validRun r) 11 >> (require (oneOf (r .table .count) k) 10 >> accepted (totalsIn r k)))
+  unfolding totalsOf _>>_ require
+  totals-counted = go (validRun r) refl (oneOf (r .table .count) k) refl
+    where
+      go : (v : Bool) → validRun r ≡ v → (o : Bool) → oneOf (r .table .count) k ≡ o → totalsOf r k ≡ (require v 11 >> (require o 10 >> accepted (totalsIn r k)))
+      go false e o f = rw e
+      go true e false f = rw (e, f)
+      go true e true f =
+          let p : (leb 1 k ≡ true) × (leb k (r .table .count) ≡ true) = and₂ f in
+          totals-found e (leb-true 1 k (p .0)) (leb-true k (r .table .count) (p .1))
 
   module _ (i : ℕ) where
     pub standing-found : validRun r ≡ true → 1 ≤ k → k ≤ r .table .count → isPosition (r .table) (r .count) k i ≡ true → standingOf r k i ≡ accepted (standingAt r k i)

@@ -15,8 +15,9 @@ use Rattle.run.specs.declared.Run.{Run}
 use Rattle.run.specs.declared.TotalsAnswer.{TotalsAnswer}
 use Rattle.run.specs.declared.TotalsAnswer.the-variants.{Are, Refused as NoTotals}
 use Rattle.run.specs.Answers.{totalsAnswer}
-use Rattle.run.specs.Records.{totalsIn, validRun}
+use Rattle.run.specs.Records.{totalsIn, storedTotals, validRun}
 use Rattle.run.specs.Queries.{oneOf, totalsOf}
+use Rattle.run.proofs.Answered.{totals-counted}
 use Rattle.tally.specs.declared.Tally.{Tally}
 use Rattle.tally.specs.declared.Sum.{Sum}
 use Rattle.tally.specs.declared.CountedAnswer.the-variants.{Are as Brings}
@@ -52,10 +53,10 @@ closedTotals closed c = do
   accepted c
 
 by-totals : (r : Run) (rule : ℕ) → countsOf r rule ≡ (totalsOf r rule >>= closedTotals (r .closed))
-unfolding countsOf totalsOf closedTotals _>>=_ _>>_ require
-by-totals r rule = go (validRun r) refl (oneOf (r .table .count) rule) refl
+unfolding countsOf closedTotals _>>=_ _>>_ require
+by-totals r rule = rw (totals-counted r rule) (go (validRun r) refl (oneOf (r .table .count) rule) refl)
   where
-    go : (v : Bool) → validRun r ≡ v → (o : Bool) → oneOf (r .table .count) rule ≡ o → countsOf r rule ≡ (totalsOf r rule >>= closedTotals (r .closed))
+    go : (v : Bool) → validRun r ≡ v → (o : Bool) → oneOf (r .table .count) rule ≡ o → countsOf r rule ≡ ((require v 11 >> (require o 10 >> accepted (totalsIn r rule))) >>= closedTotals (r .closed))
     go false e o f = rw e
     go true e false f = rw (e, f)
     go true e true f = rw (e, f)
@@ -70,7 +71,7 @@ of-refusal : (r : Run) (rule : ℕ) (cause : Refusal) → refused (numberOf caus
 unfolding totalsOf _>>_ require countedAnswer countedFor
 of-refusal r rule cause e = go (validRun r) (oneOf (r .table .count) rule) e
   where
-    go : (v o : Bool) → refused (numberOf cause) ≡ (require v 11 >> (require o 10 >> accepted (totalsIn r rule))) → countedAnswer (countedFor cause) ≡ refused (numberOf cause)
+    go : (v o : Bool) → refused (numberOf cause) ≡ (require v 11 >> (require o 10 >> accepted (storedTotals r rule))) → countedAnswer (countedFor cause) ≡ refused (numberOf cause)
     go false o q = let n : numberOf cause ≡ 11 = cc in rw n refl
     go true false q = let n : numberOf cause ≡ 10 = cc in rw n refl
     go true true q = absurd (no-of q)
