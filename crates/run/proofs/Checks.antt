@@ -136,16 +136,3 @@ module _ (t : Table) (n : ℕ) where
 
     pub counted-kept : isOverall (getD (t .rules) k noRule .code) ≡ false → Counted t n counts (k + 1)
     counted-kept o = next counts (f .size) (f .rest k (omega arith) low ∙ sym (own-count k false o)) (λ i z. refl)
-
--- position 0 of rule k + 1
-pub zero-check : (t : Table) (k : ℕ) → k < t .count → isOverallRule t (k + 1) ≡ isOverall (getD (t .rules) k noRule .code)
-unfolding isOverallRule ruleAt
-zero-check t k l =
-    let n : k + 1 - 1 ≡ k = omega arith in
-    rw (le-leb (k + 1) (t .count) (omega arith), n) refl
-
-pub zero-cell : (overall : List Cell) (k : ℕ) → overallIn overall (k + 1) ≡ getD overall k idleCell .standing
-unfolding overallIn
-zero-cell overall k =
-    let n : k + 1 - 1 ≡ k = omega arith in
-    ap (λ (i : ℕ). getD overall i idleCell .standing) n

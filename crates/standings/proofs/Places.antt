@@ -1,13 +1,20 @@
 -- Where a rule's position stands, and which places are in use.
 use mathlib.Core.Path.{_≡_, refl, _∙_, ap}
-use mathlib.Core.Bool.{Bool, true, false, _&&_, and-false}
+use mathlib.Core.Bool.{Bool, true, false, cond, _&&_, and-false}
+use mathlib.Core.List.{List}
 use Prim.Native.Nat.{ℕ, zero, suc, _+_, _-_, _*_, _/_, _%_, _≤_, _<_}
 use native.Mathlib.Omega.{arith}
-use borrow.Author.Tests.{lt-ltb, le-ltb, ltb-true}
+use borrow.Author.Tests.{le-leb, lt-ltb, le-ltb, ltb-true}
 use lib.Dec.{leb, ltb}
+use lib.ListN.{getD}
 use Rattle.declare.proofs.Booleans.{and₂, both, fails}
 use Rattle.declare.specs.declared.Standing.{Standing}
-use Rattle.standings.specs.Places.{withZero, placeOf, inUse}
+use Rattle.declare.specs.declared.Standing.the-variants.{Idle}
+use Rattle.declare.specs.declared.Table.{Table}
+use Rattle.declare.specs.Overall.{isOverall}
+use Rattle.declare.specs.Rules.{noRule, ruleAt, isOverallRule}
+use Rattle.standings.specs.declared.Cell.{Cell}
+use Rattle.standings.specs.Places.{idleCell, overallIn, zeroIn, withZero, placeOf, inUse}
 
 module _ (count n j : ℕ) where
   pub place-in-use : j / 256 < count → j % 256 < n → inUse count n j ≡ true
@@ -62,3 +69,20 @@ pub from-one : (z : Standing) (s : ℕ → Standing) (i : ℕ) → 1 ≤ i → w
 unfolding withZero
 from-one z s zero low = absurd (omega arith)
 from-one z s (suc i) low = refl
+
+-- position 0 of rule k + 1
+pub zero-check : (t : Table) (k : ℕ) → k < t .count → isOverallRule t (k + 1) ≡ isOverall (getD (t .rules) k noRule .code)
+unfolding isOverallRule ruleAt
+zero-check t k l =
+    let n : k + 1 - 1 ≡ k = omega arith in
+    rw (le-leb (k + 1) (t .count) (omega arith), n) refl
+
+pub zero-cell : (overall : List Cell) (k : ℕ) → overallIn overall (k + 1) ≡ getD overall k idleCell .standing
+unfolding overallIn
+zero-cell overall k =
+    let n : k + 1 - 1 ≡ k = omega arith in
+    ap (λ (i : ℕ). getD overall i idleCell .standing) n
+
+pub zero-is : (t : Table) (overall : List Cell) (k : ℕ) → k < t .count → cond (isOverall (getD (t .rules) k noRule .code)) (getD overall k idleCell .standing) Idle ≡ zeroIn t overall (k + 1)
+unfolding zeroIn
+zero-is t overall k l = rw (zero-check t k l, zero-cell overall k) refl

@@ -1,11 +1,14 @@
 // The totals of a rule: how many of its positions stand in each way.
 ghost use mathlib.Core.Path.{_≡_};
+ghost use mathlib.Core.Bool.{cond};
+ghost use Rattle.declare.specs.declared.Standing.the-variants.{Idle};
+ghost use Rattle.declare.specs.Overall.{isOverall};
 ghost use Rattle.standings.specs.Totals.{noTotals, oneMore, withStanding, idleTotals, zeroTotals};
 use crate::Cell;
-use crate::zero_in;
 use declare::RULES;
 use declare::Standing;
 use declare::Table;
+use declare::codes::is_overall;
 use declare::numbers::min;
 
 // How many positions of a rule are not idle, and how many of these are fulfilled, violated and
@@ -71,7 +74,19 @@ pub fn idle_totals() -> [Totals; RULES]
     [none; RULES]
 }
 
-// Each rule's slot begun with its position 0; slots past the rules stay as they are.
+// The standing at position 0 of a rule with this code and cell.
+fn zero_of(code: u8, c: Cell) -> Standing
+    ensures { λ r. ⌜ r ≡ cond (isOverall code) (c .standing) Idle ⌝ }
+{
+    if is_overall(code) {
+        c.standing
+    } else {
+        Standing::Idle
+    }
+}
+
+// Each rule's slot begun with its position 0; slots past the rules stay as they are. One loop, in
+// place of `zero_in` for each, so that the table is not copied for each.
 pub fn zero_totals(
     table: Table,
     overall: [Cell; RULES],
@@ -81,8 +96,9 @@ pub fn zero_totals(
 {
     let rules = min(table.count, RULES);
     for k in 0..rules {
-        let zero = zero_in(table, overall, k + 1);
-        totals[k] = with_standing(no_totals(), zero);
+        let rule = table.rules[k];
+        let c = overall[k];
+        totals[k] = with_standing(no_totals(), zero_of(rule.code, c));
     }
     totals
 }

@@ -16,7 +16,7 @@ use Rattle.declare.proofs.Lists.{all-each}
 use Rattle.standings.specs.declared.Cell.{Cell}
 use Rattle.standings.specs.Places.{idleCell, overallIn}
 use Rattle.run.specs.Records.{validZero, validOverall}
-use Rattle.run.proofs.Checks.{zero-check, zero-cell}
+use Rattle.standings.proofs.Places.{zero-check, zero-cell}
 use borrow.Author.Needs.{needs}
 use Rattle.run.proofs.record.valid_overall.Statement.{statement}
 use Rattle.run.proofs.record.valid_overall.Tie as tie

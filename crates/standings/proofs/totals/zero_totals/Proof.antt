@@ -1,18 +1,18 @@
 -- The slots of the rules passed are begun; past the rules all stay as they are.
-use mathlib.Core.Path.{_≡_, sym, subst, ap, _∙_}
+use mathlib.Core.Path.{_≡_, ap₂, _∙_}
 use mathlib.Core.Bool.{cond}
-use mathlib.Core.List.{List}
-use Prim.Native.Nat.{ℕ, _+_, _-_, _≤_, _<_}
+use Prim.Native.Nat.{_+_, _-_, _≤_, _<_}
 use native.Mathlib.Omega.{arith}
 use borrow.Author.Needs.{needs}
 use borrow.Author.Tests.{lt-ltb, le-ltb}
 use lib.Dec.{ltb}
 use lib.ListN.{length}
 use Rattle.declare.specs.Limits.{mostRules}
+use Rattle.declare.specs.Rules.{noComparison, noCondition, noRule}
 use Rattle.declare.proofs.Sweeps.{Swept, swept-none, swept-again, swept-skip, swept-all}
-use Rattle.standings.specs.declared.totals.Totals.{Totals}
 use Rattle.standings.specs.Places.{zeroIn}
 use Rattle.standings.specs.Totals.{noTotals, withStanding, zeroTotals}
+use Rattle.standings.proofs.Places.{zero-is}
 use Rattle.standings.proofs.totals.zero_totals.Statement.{statement}
 use Rattle.standings.proofs.totals.zero_totals.Tie as tie
 
@@ -30,14 +30,23 @@ min-requires c κs = search needs
 loop-holds : tie.Need-loop-holds Inv-loop μ-loop
 loop-holds c = (omega arith, swept-none _ _)
 
-add-zero-in : tie.Need-add-zero-in Inv-loop μ-loop
-add-zero-in c = search needs
+mul-rule : tie.Need-mul-rule Inv-loop μ-loop
+mul-rule c = search needs
 
-zero-in-requires : tie.Need-zero-in-requires Inv-loop μ-loop
-zero-in-requires c κs = search needs
+element-copy-out-rule : tie.Need-element-copy-out-rule Inv-loop μ-loop
+element-copy-out-rule c = search needs
+
+mul-c : tie.Need-mul-c Inv-loop μ-loop
+mul-c c = search needs
+
+array-copy-out-c : tie.Need-array-copy-out-c Inv-loop μ-loop
+array-copy-out-c c = search needs
 
 no-totals-requires : tie.Need-no-totals-requires Inv-loop μ-loop
 no-totals-requires c κs = search needs
+
+zero-of-requires : tie.Need-zero-of-requires Inv-loop μ-loop
+zero-of-requires c κs = search needs
 
 with-standing-requires : tie.Need-with-standing-requires Inv-loop μ-loop
 with-standing-requires c κs = search needs
@@ -55,27 +64,28 @@ loop-less : tie.Need-loop-less Inv-loop μ-loop
 loop-less c = search needs
 
 loop-again : tie.Need-loop-again Inv-loop μ-loop
+unfolding noRule noCondition noComparison
 loop-again c =
-    let l = c .before .before .before .before .loop in
-    let rules = c .before .before .before .before .before .min in
-    let start = c .before .before .before .before .before .before in
-    let full : length (start .args .t3) ≡ mostRules = search needs in
-    let low : l .k < start .args .table .count = omega (arith, rules .ensures) in
+    let l = c .before .before .before .before .before .before .loop in
+    let rules = c .before .before .before .before .before .before .before .min in
+    let a = c .before .before .before .before .before .before .before .before .args in
+    let full : length (a .t3) ≡ mostRules = search needs in
+    let low : l .k < a .t1 .count = omega (arith, rules .ensures) in
     let few : l .k < mostRules = omega (arith, rules .ensures) in (
       omega arith,
       swept-again (l .inv .1) noTotals (omega (arith, few, full))
-          (rw (lt-ltb (l .k) (start .args .table .count) low, c .with-standing .ensures, c .before .no-totals .ensures, c .before .before .zero-in .ensures)),
+          (rw (lt-ltb (l .k) (a .t1 .count) low) (c .with-standing .ensures ∙ ap₂ withStanding (c .before .before .no-totals .ensures) (c .before .zero-of .ensures ∙ zero-is (a .t1) (a .t2) (l .k) low))),
     )
 
 returns : tie.Need-returns Inv-loop μ-loop
 unfolding zeroTotals
 returns c =
     let rules = c .before .before .min in
-    let start = c .before .before .before in
-    let full : length (start .args .t3) ≡ mostRules = search needs in
+    let a = c .before .before .before .args in
+    let full : length (a .t3) ≡ mostRules = search needs in
     swept-all
     (swept-skip (c .before .loop .inv .1) mostRules (omega (arith, rules .ensures))
-    (λ i a b x. rw (le-ltb i (start .args .table .count) (omega (arith, rules .ensures, a, b)))))
+    (λ i b d x. rw (le-ltb i (a .t1 .count) (omega (arith, rules .ensures, b, d)))))
     (omega (arith, full))
 
 pub zero-totals-spec : {M : Type 1} → statement M
@@ -86,9 +96,12 @@ zero-totals-spec =
     μ-loop
     min-requires
     loop-holds
-    add-zero-in
-    zero-in-requires
+    mul-rule
+    element-copy-out-rule
+    mul-c
+    array-copy-out-c
     no-totals-requires
+    zero-of-requires
     with-standing-requires
     mul-totals
     array-set-from-totals
