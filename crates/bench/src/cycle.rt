@@ -9,6 +9,7 @@ use declare::numbers::less_one;
 use judge::cells::judge_cells;
 use judge::overall::judge_overall;
 use run::Run;
+use run::start::new_run;
 use standings::totals::zero_totals;
 
 // The run of a table that has taken the first n events.
@@ -28,8 +29,7 @@ fn taken(table: Table, events: [Event; EVENTS], n: usize) -> Run {
 
 // The same run, judged at once.
 fn judged(table: Table, events: [Event; EVENTS], n: usize) -> Run {
-    let step = Run::start(table);
-    let mut run = step.run;
+    let mut run = new_run(table);
     let last = event_at(events, less_one(n));
     let cells = run.cells;
     let overall = run.overall;

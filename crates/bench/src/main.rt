@@ -18,8 +18,7 @@ fn measured(letter: u8, turns: usize, cycles: usize, rules: &[u8], rest: &[u8]) 
     match letter {
         b'r' => texts::cycles(input::cycle_of(rest), turns),
         b'u' => texts::rules(rules, turns),
-        b'n' => texts::notebooks(rules, rest, cycles, turns),
-        b'v' => texts::checks(rules, rest, cycles, turns),
+        b'n' | b'v' => texts::notebooks(letter, rules, rest, cycles, turns),
         _ => cycle::measured(letter, turns, rules, input::cycle_of(rest)),
     }
 }

@@ -40,44 +40,28 @@ pub fn rules(text: &[u8], turns: usize) -> u64 {
     sum
 }
 
-// The notebooks of all cycles, once.
-fn all_notebooks(rules: &[u8], rest: &[u8], cycles: usize) -> u64 {
+// The notebooks of all cycles, once; of each run the first cell, or every standing.
+fn all_notebooks(letter: u8, rules: &[u8], rest: &[u8], cycles: usize) -> u64 {
     let mut sum: u64 = 0;
     let mut at = 0;
     for k in 0..cycles {
         let cycle = input::cycle_of(line::part_from(rest, at));
         let book = notebook::read_notebook(rules, cycle);
-        sum = weight::joined(sum, weight::of_run(book.run));
+        let weight = if letter == b'n' {
+            weight::of_run(book.run)
+        } else {
+            weight::of_standings(book.run)
+        };
+        sum = weight::joined(sum, weight);
         at = input::next_at(rest, at);
     }
     sum
 }
 
-pub fn notebooks(rules: &[u8], rest: &[u8], cycles: usize, turns: usize) -> u64 {
+pub fn notebooks(letter: u8, rules: &[u8], rest: &[u8], cycles: usize, turns: usize) -> u64 {
     let mut sum: u64 = 0;
     for i in 0..turns {
-        sum = weight::joined(sum, all_notebooks(rules, rest, cycles));
-    }
-    sum
-}
-
-// The notebooks of all cycles, every standing looked at.
-fn all_checks(rules: &[u8], rest: &[u8], cycles: usize) -> u64 {
-    let mut sum: u64 = 0;
-    let mut at = 0;
-    for k in 0..cycles {
-        let cycle = input::cycle_of(line::part_from(rest, at));
-        let book = notebook::read_notebook(rules, cycle);
-        sum = weight::joined(sum, weight::of_standings(book.run));
-        at = input::next_at(rest, at);
-    }
-    sum
-}
-
-pub fn checks(rules: &[u8], rest: &[u8], cycles: usize, turns: usize) -> u64 {
-    let mut sum: u64 = 0;
-    for i in 0..turns {
-        sum = weight::joined(sum, all_checks(rules, rest, cycles));
+        sum = weight::joined(sum, all_notebooks(letter, rules, rest, cycles));
     }
     sum
 }

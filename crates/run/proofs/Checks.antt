@@ -1,11 +1,11 @@
 -- Laws of the loops that check a record: one event more, the cells in flat order as rows, and how
 -- many events are judged under each rule.
-use mathlib.Core.Path.{_≡_, refl, sym, ap, ap₂, _∙_}
+use mathlib.Core.Path.{_≡_, refl, sym, ap₂, _∙_}
 use mathlib.Core.Bool.{Bool, true, false, cond, _&&_, true≢false}
 use mathlib.Core.List.{List}
 use Prim.Native.Nat.{ℕ, zero, suc, _+_, _-_, _*_, _/_, _%_, _≤_, _<_, zero-le}
 use native.Mathlib.Omega.{arith}
-use borrow.Author.Tests.{le-leb, lt-leb, leb-true, eqb-true, eqb-false}
+use borrow.Author.Tests.{lt-leb, leb-true, eqb-true, eqb-false}
 use native.Mathlib.Numerals.{add-one}
 use lib.Dec.{leb, eqb}
 use lib.ListN.{length, getD, set, take, replicate, length-replicate, length-set}
@@ -16,11 +16,11 @@ use Rattle.declare.specs.declared.Table.{Table}
 use Rattle.declare.specs.declared.Standing.{Standing}
 use Rattle.declare.specs.Standings.{isIdle}
 use Rattle.declare.specs.Overall.{isOverall}
-use Rattle.declare.specs.Rules.{noRule, ruleAt, isOverallRule}
+use Rattle.declare.specs.Rules.{noRule, ruleAt}
 use Rattle.declare.specs.Lists.{all, allBelow}
 use Rattle.declare.specs.Events.{wellFormed, nonFallingFrom, nonFalling, lastFrom, lastTime, noEvent}
 use Rattle.standings.specs.declared.Cell.{Cell}
-use Rattle.standings.specs.Places.{idleCell, standingIn, overallIn}
+use Rattle.standings.specs.Places.{idleCell, standingIn}
 use Rattle.standings.proofs.Same.{standing-at}
 use Rattle.run.specs.Records.{validStanding, validAt, validRow, eventsJudged, EventsJudged, validStandings}
 use Rattle.run.proofs.Places.{standsAt}

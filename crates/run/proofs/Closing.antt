@@ -1,12 +1,12 @@
 -- What closing makes of one cell: an open one in use is decided without a target, any other stays.
 use mathlib.Core.Path.{_≡_, refl, sym, ap, subst, _∙_}
-use mathlib.Core.Bool.{Bool, true, false, not, cond, _||_, true≢false, false≢true}
+use mathlib.Core.Bool.{Bool, true, false, not, cond, _||_, true≢false}
 use mathlib.Core.List.{List}
 use Prim.Native.Nat.{ℕ, _+_, _-_, _/_, _%_, _≤_, _<_}
 use native.Mathlib.Nat.{zero-add}
 use native.Mathlib.Omega.{arith}
-use borrow.Author.Tests.{lt-ltb, leb-true, not-true}
-use lib.Dec.{leb, ltb}
+use borrow.Author.Tests.{leb-true, not-true}
+use lib.Dec.{leb}
 use lib.ListN.{length, getD}
 use lib.Seq.{ext-getD}
 use Rattle.declare.specs.declared.Event.{Event}
@@ -36,14 +36,8 @@ use Rattle.run.specs.Records.{eventsOf, validStanding, validZero, validO
 use Rattle.run.specs.Close.{closedAt, closedOverall}
 use Rattle.run.proofs.Bounds.{valid-parts}
 
-only-open : (s : Standing) → isOpen s ≡ true → s ≡ Open
-only-open Idle h = absurd (false≢true h)
-only-open Open h = refl
-only-open (Fulfilled j) h = absurd (false≢true h)
-only-open (Violated j) h = absurd (false≢true h)
-
 -- an event's standing
-pub closed-event : (r : Rule) (es : List Event) (i : ℕ) (s : Standing) → 1 ≤ i → closed r es i s ≡ cond (isOpen s) (decided (polarityOf r) 0) s
+closed-event : (r : Rule) (es : List Event) (i : ℕ) (s : Standing) → 1 ≤ i → closed r es i s ≡ cond (isOpen s) (decided (polarityOf r) 0) s
 unfolding closed
 closed-event r es i Idle low = refl
 closed-event r es i Open low = closing-event r es i low

@@ -7,8 +7,8 @@ use Prim.Native.Nat.{ℕ, zero, suc, _+_, _-_, _*_, _/_, _%_, _≤_, _<_, min}
 use native.Mathlib.Nat.{zero-add}
 use native.Mathlib.Numerals.{add-one}
 use native.Mathlib.Omega.{arith}
-use borrow.Author.Tests.{eqb-true, eqb-false, lt-ltb, le-ltb, ltb-true, ltb-false}
-use lib.Dec.{leb, ltb, eqb}
+use borrow.Author.Tests.{eqb-true, eqb-false, ltb-true, ltb-false}
+use lib.Dec.{ltb, eqb}
 use lib.ListN.{length, getD, set, length-set}
 use lib.Seq.{ext-getD, getD-set-same, getD-set-other}
 use Rattle.declare.specs.declared.Standing.{Standing}
@@ -60,7 +60,7 @@ module _ {n : ℕ} {cells : List Cell} {before now : List Totals} {j : ℕ} (c :
   standing = getD cells j idleCell .standing
 
   -- places passed over that no row counts
-  pub counting-skip : (m : ℕ) → ((k : ℕ) → min n (m - k * mostEvents) ≡ min n (j - k * mostEvents)) → Counting n cells before now m
+  counting-skip : (m : ℕ) → ((k : ℕ) → min n (m - k * mostEvents) ≡ min n (j - k * mostEvents)) → Counting n cells before now m
   counting-skip m same =
       record { full = c .full; size = c .size; slots = λ k l. let e = same k in rw e (c .slots k l) }
 
@@ -119,7 +119,7 @@ module _ {n : ℕ} {cells : List Cell} {before now : List Totals} {j : ℕ} (c :
           go false q = counting-rest (ltb-false (j % mostEvents) n q) (j + 1) (omega arith) (omega arith)
 
     -- a place that was not passed yet is changed
-    pub counting-changed : (x : Cell) → Counting n (set cells j x) before now j
+    counting-changed : (x : Cell) → Counting n (set cells j x) before now j
     unfolding standingIn standingFrom
     counting-changed x =
         record {

@@ -6,7 +6,6 @@ use Prim.Native.Nat.{ℕ, zero, suc, _+_, _-_, _≤_, _<_}
 use native.Mathlib.Nat.{add-zero}
 use native.Mathlib.Numerals.{add-one}
 use native.Mathlib.Omega.{arith}
-use native.Mathlib.Decide.{le-ind}
 use lib.ListN.{getD}
 use Rattle.declare.specs.declared.Standing.{Standing}
 use Rattle.declare.specs.declared.Standing.the-variants.{Idle, Open, Fulfilled, Violated}
@@ -83,15 +82,6 @@ totals-same s u n f = rw (each (λ x. not (isIdle x)), each isFulfilled, each is
   where
     each : (p : Standing → Bool) → countBelow (λ k. p (s k)) (suc n) ≡ countBelow (λ k. p (u k)) (suc n)
     each p = count-same (λ k. p (s k)) (λ k. p (u k)) (suc n) (λ k l. ap p (f k (omega arith)))
-
--- an idle position counts for nothing
-with-idle : (s : ℕ → Standing) (k : ℕ) → s (suc k) ≡ Idle → totalsBy s (suc k) ≡ totalsBy s k
-unfolding totalsBy positionsOf countBelow
-with-idle s k e = rw e (simp add-zero)
-
-pub totals-idle : (s : ℕ → Standing) (n m : ℕ) → n ≤ m → ((i : ℕ) → n < i → i ≤ m → s i ≡ Idle) → totalsBy s m ≡ totalsBy s n
-totals-idle s n m l f =
-    le-ind (λ (k : ℕ). k ≤ m → totalsBy s k ≡ totalsBy s n) (λ _. refl) (λ k a e b. with-idle s k (f (suc k) (omega arith) (omega arith)) ∙ e (omega arith)) m l (omega arith)
 
 bit-sum : (s : Standing) → bit (not (isIdle s)) ≡ bit (isFulfilled s) + bit (isViolated s) + bit (isOpen s)
 bit-sum Idle = refl

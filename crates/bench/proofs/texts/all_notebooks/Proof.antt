@@ -5,10 +5,10 @@ use Rattle.bench.proofs.texts.all_notebooks.Statement.{statement}
 use Rattle.bench.proofs.texts.all_notebooks.Tie as tie
 
 abbrev Inv-loop : tie.InvT-loop
-Inv-loop rules rest cycles sum₀ at₀ k₀ sum at k = k ≤ cycles
+Inv-loop letter rules rest cycles sum₀ at₀ k₀ sum at k = k ≤ cycles
 
 abbrev μ-loop : tie.MeasureT-loop
-μ-loop rules rest cycles sum₀ at₀ k₀ sum at k = cycles - k
+μ-loop letter rules rest cycles sum₀ at₀ k₀ sum at k = cycles - k
 
 loop-holds : tie.Need-loop-holds Inv-loop μ-loop
 loop-holds c = search needs
@@ -24,6 +24,9 @@ read-notebook-requires c κs = search needs
 
 of-run-requires : tie.Need-of-run-requires Inv-loop μ-loop
 of-run-requires c κs = search needs
+
+of-standings-requires : tie.Need-of-standings-requires Inv-loop μ-loop
+of-standings-requires c κs = search needs
 
 joined-requires : tie.Need-joined-requires Inv-loop μ-loop
 joined-requires c κs = search needs
@@ -54,6 +57,7 @@ all-notebooks-spec =
     cycle-of-requires
     read-notebook-requires
     of-run-requires
+    of-standings-requires
     joined-requires
     next-at-requires
     add-k

@@ -5,10 +5,10 @@ use Rattle.bench.proofs.texts.notebooks.Statement.{statement}
 use Rattle.bench.proofs.texts.notebooks.Tie as tie
 
 abbrev Inv-loop : tie.InvT-loop
-Inv-loop rules rest cycles turns sum₀ i₀ sum i = i ≤ turns
+Inv-loop letter rules rest cycles turns sum₀ i₀ sum i = i ≤ turns
 
 abbrev μ-loop : tie.MeasureT-loop
-μ-loop rules rest cycles turns sum₀ i₀ sum i = turns - i
+μ-loop letter rules rest cycles turns sum₀ i₀ sum i = turns - i
 
 loop-holds : tie.Need-loop-holds Inv-loop μ-loop
 loop-holds c = search needs
