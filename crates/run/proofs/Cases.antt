@@ -21,15 +21,15 @@ use Rattle.run.specs.Start.{idleRun, newRun, startOf, started}
 use Rattle.run.specs.Take.{judgedRun}
 use Rattle.run.specs.Close.{closedAt, closedCells, closedOverall, closedRun, finishedRun}
 use Rattle.run.specs.Queries.{isPosition}
-use Rattle.run.specs.Cases.{codes, records, starts, zeros, judgements, closings, finished, numbers, positions, countings, storings, storeds, Checked}
+use Rattle.run.specs.Cases.{codes, records, starts, zeros, judgements, closings, finished, numbers, positions, counts, checkedTotals, keptTotals, Checked}
 
 pub checked : Checked
-unfolding codes records starts zeros judgements closings finished numbers positions countings storings storeds idleRun countedTotals validTotals firstTime emptySlot isOverall overallOf isOverallRule fitsTemplate occurs occursAt fitsAt seen formulaOf decision canOccur isSettled overallIn zeroIn withZero overallCell changedOverall judgedOverall eventsJudged validOverall closedOverall isPosition all any firstUpTo lastUpTo firstPast nearest allBelow countBelow mapFrom comparisonsOf testsOf met inRange isActivity readingsInRange wellFormed nonFallingFrom nonFalling lastFrom lastTime eventAt isTemplate noneTwice noRule validCondition validEnd validWindow validHead validRule rulesOf validTable isActivation activationAt beforeEnd within correlates suits templates templateOf inReach eligible target decided horizon candidates meets someMeets satisfiable soonest hasRoom canCome undecided standing carried closing closed standingIn inUse judged judgedAt changedCell judgedCells eventsOf ruleAt validEvents validAt validRow validStandings validRun afterCall newRun startOf emptyTable started judgedRun changed closedAt closedCells closedRun positionsOf totalsBy standingFrom padded tableOf _>>_ require verdict finishedRun
+unfolding codes records starts zeros judgements closings finished numbers positions counts checkedTotals keptTotals idleRun countedTotals validTotals firstTime emptySlot isOverall overallOf isOverallRule fitsTemplate occurs occursAt fitsAt seen formulaOf decision canOccur isSettled overallIn zeroIn withZero overallCell changedOverall judgedOverall eventsJudged validOverall closedOverall isPosition all any firstUpTo lastUpTo firstPast nearest allBelow countBelow mapFrom comparisonsOf testsOf met inRange isActivity readingsInRange wellFormed nonFallingFrom nonFalling lastFrom lastTime eventAt isTemplate noneTwice noRule validCondition validEnd validWindow validHead validRule rulesOf validTable isActivation activationAt beforeEnd within correlates suits templates templateOf inReach eligible target decided horizon candidates meets someMeets satisfiable soonest hasRoom canCome undecided standing carried closing closed standingIn inUse judged judgedAt changedCell judgedCells eventsOf ruleAt validEvents validAt validRow validStandings validRun afterCall newRun startOf emptyTable started judgedRun changed closedAt closedCells closedRun positionsOf totalsBy standingFrom padded tableOf _>>_ require verdict finishedRun
 checked =
     record {
       of-codes = refl;
       of-records = refl;
-      of-storings = refl;
+      of-checked-totals = refl;
       of-starts = refl;
       of-zeros = refl;
       of-takes = refl;
@@ -38,5 +38,5 @@ checked =
       of-numbers = refl;
       of-positions = refl;
       of-totals = refl;
-      of-stored = refl;
+      of-kept-totals = refl;
     }

@@ -146,20 +146,20 @@ totals activations fulfilled violated still =
 
 -- by the stored totals: of the first k of two rules and five events, under the first open, violated
 -- twice and fulfilled, under the second fulfilled
-abbrev pub storing : ℕ → List Totals → Run
-storing k stored =
+abbrev pub withStored : ℕ → List Totals → Run
+withStored k stored =
     withTotals (ofStandings false k 5 (Open ∷ Violated 2 ∷ Idle ∷ Violated 0 ∷ Fulfilled 1 ∷ replicate 251 Idle ++ (Fulfilled 1 ∷ []))) stored
 
-unfoldable pub storings : List (Case Bool)
-storings =
-    validRun (storing 2 (totals 4 1 2 1 ∷ totals 1 1 0 0 ∷ [])) is true
-    ∷ validRun (storing 2 (totals 3 1 2 1 ∷ totals 1 1 0 0 ∷ [])) is false
-    ∷ validRun (storing 2 (totals 4 2 2 1 ∷ totals 1 1 0 0 ∷ [])) is false
-    ∷ validRun (storing 2 (totals 4 1 1 1 ∷ totals 1 1 0 0 ∷ [])) is false
-    ∷ validRun (storing 2 (totals 4 1 2 0 ∷ totals 1 1 0 0 ∷ [])) is false
-    ∷ validRun (storing 2 (totals 4 1 2 1 ∷ totals 1 0 1 0 ∷ [])) is false
+unfoldable pub checkedTotals : List (Case Bool)
+checkedTotals =
+    validRun (withStored 2 (totals 4 1 2 1 ∷ totals 1 1 0 0 ∷ [])) is true
+    ∷ validRun (withStored 2 (totals 3 1 2 1 ∷ totals 1 1 0 0 ∷ [])) is false
+    ∷ validRun (withStored 2 (totals 4 2 2 1 ∷ totals 1 1 0 0 ∷ [])) is false
+    ∷ validRun (withStored 2 (totals 4 1 1 1 ∷ totals 1 1 0 0 ∷ [])) is false
+    ∷ validRun (withStored 2 (totals 4 1 2 0 ∷ totals 1 1 0 0 ∷ [])) is false
+    ∷ validRun (withStored 2 (totals 4 1 2 1 ∷ totals 1 0 1 0 ∷ [])) is false
     -- past the rules they are not read
-    ∷ validRun (storing 1 (totals 4 1 2 1 ∷ totals 9 9 9 9 ∷ [])) is true
+    ∷ validRun (withStored 1 (totals 4 1 2 1 ∷ totals 9 9 9 9 ∷ [])) is true
     -- position 0 is counted under a rule about the cycle, and not under another
     ∷ validRun (withTotals (ofCycle true 2 1 [] (Violated 1 ∷ Violated 1 ∷ [])) (totals 1 0 1 0 ∷ totals 0 0 0 0 ∷ [])) is true
     ∷ validRun (withTotals (ofCycle true 2 1 [] (Violated 1 ∷ Violated 1 ∷ [])) (totals 0 0 0 0 ∷ totals 0 0 0 0 ∷ [])) is false
@@ -277,8 +277,8 @@ stands i =
     getD (Violated 0 ∷ Idle ∷ Open ∷ Fulfilled 3 ∷ Violated 1 ∷ Fulfilled 0 ∷ Idle ∷ Violated 0 ∷ Fulfilled 2 ∷ []) i Idle
 
 -- of the first positions, position by position, from 0 on
-unfoldable pub countings : List (Case Totals)
-countings =
+unfoldable pub counts : List (Case Totals)
+counts =
     totalsBy stands 0 is totals 1 0 1 0
     ∷ totalsBy stands 1 is totals 1 0 1 0
     ∷ totalsBy stands 2 is totals 2 0 1 1
@@ -293,32 +293,32 @@ countings =
     ∷ totalsIn (ofCycle true 2 1 [] (Fulfilled 1 ∷ Fulfilled 1 ∷ [])) 2 is totals 0 0 0 0
     ∷ []
 
--- the stored totals of the first two slots, before and after a call
-abbrev pub stores : Run → List Totals
-stores r = storedTotals r 1 ∷ storedTotals r 2 ∷ []
+-- the stored totals of the first two slots
+abbrev pub storedOf : Run → List Totals
+storedOf r = storedTotals r 1 ∷ storedTotals r 2 ∷ []
 
 -- exclusive choice and response of 1 by 2, of the first k; the slots past them hold 9
-abbrev pub storesAfter : (Run → Run) → ℕ → List Event → List Totals
-storesAfter call k events =
-    stores
+abbrev pub storedAfter : (Run → Run) → ℕ → List Event → List Totals
+storedAfter call k events =
+    storedOf
     (call
     (withTotals (recordWith false (coded 16 ∷ coded 2 ∷ []) k events 2 (replicate 258 Idle) (Open ∷ [])) (totals 9 9 9 9 ∷ totals 9 9 9 9 ∷ [])))
 
-unfoldable pub storeds : List (Case (List Totals))
-storeds =
-    stores (started (tableOf (coded 16 ∷ coded 2 ∷ []))) is (totals 1 0 0 1 ∷ totals 0 0 0 0 ∷ [])
-    ∷ storesAfter judgedRun 2 (event 0 1 ∷ event 1 1 ∷ []) is (totals 1 0 0 1 ∷ totals 2 0 0 2 ∷ [])
-    ∷ storesAfter judgedRun 2 (event 0 1 ∷ event 1 2 ∷ []) is (totals 1 0 1 0 ∷ totals 1 1 0 0 ∷ [])
-    ∷ storesAfter judgedRun 1 (event 0 1 ∷ event 1 2 ∷ []) is (totals 1 0 1 0 ∷ totals 9 9 9 9 ∷ [])
-    ∷ storesAfter (λ r. closedRun (judgedRun r)) 2 (event 0 1 ∷ event 1 1 ∷ []) is (totals 1 1 0 0 ∷ totals 2 0 2 0 ∷ [])
-    ∷ storesAfter (λ r. closedRun (judgedRun r)) 1 (event 0 1 ∷ event 1 1 ∷ []) is (totals 1 1 0 0 ∷ totals 9 9 9 9 ∷ [])
-    ∷ stores (finishedRun (tableOf (coded 16 ∷ coded 2 ∷ [])) 2 (eventSlots (event 0 1 ∷ event 1 1 ∷ []))) is (totals 1 1 0 0 ∷ totals 2 0 2 0 ∷ [])
+unfoldable pub keptTotals : List (Case (List Totals))
+keptTotals =
+    storedOf (started (tableOf (coded 16 ∷ coded 2 ∷ []))) is (totals 1 0 0 1 ∷ totals 0 0 0 0 ∷ [])
+    ∷ storedAfter judgedRun 2 (event 0 1 ∷ event 1 1 ∷ []) is (totals 1 0 0 1 ∷ totals 2 0 0 2 ∷ [])
+    ∷ storedAfter judgedRun 2 (event 0 1 ∷ event 1 2 ∷ []) is (totals 1 0 1 0 ∷ totals 1 1 0 0 ∷ [])
+    ∷ storedAfter judgedRun 1 (event 0 1 ∷ event 1 2 ∷ []) is (totals 1 0 1 0 ∷ totals 9 9 9 9 ∷ [])
+    ∷ storedAfter (λ r. closedRun (judgedRun r)) 2 (event 0 1 ∷ event 1 1 ∷ []) is (totals 1 1 0 0 ∷ totals 2 0 2 0 ∷ [])
+    ∷ storedAfter (λ r. closedRun (judgedRun r)) 1 (event 0 1 ∷ event 1 1 ∷ []) is (totals 1 1 0 0 ∷ totals 9 9 9 9 ∷ [])
+    ∷ storedOf (finishedRun (tableOf (coded 16 ∷ coded 2 ∷ [])) 2 (eventSlots (event 0 1 ∷ event 1 1 ∷ []))) is (totals 1 1 0 0 ∷ totals 2 0 2 0 ∷ [])
     ∷ []
 
 pub record Checked : Type 0 where
   pub of-codes : AsExpected codes
   pub of-records : AsExpected records
-  pub of-storings : AsExpected storings
+  pub of-checked-totals : AsExpected checkedTotals
   pub of-starts : AsExpected starts
   pub of-zeros : AsExpected zeros
   pub of-takes : AsExpected judgements
@@ -326,5 +326,5 @@ pub record Checked : Type 0 where
   pub of-finished : AsExpected finished
   pub of-numbers : AsExpected numbers
   pub of-positions : AsExpected positions
-  pub of-totals : AsExpected countings
-  pub of-stored : AsExpected storeds
+  pub of-totals : AsExpected counts
+  pub of-kept-totals : AsExpected keptTotals
