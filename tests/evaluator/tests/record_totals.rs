@@ -205,7 +205,8 @@ fn with_totals(record: &Record, slot: usize, numbers: Four) -> Record {
 /// is wrong with, and those with a cause of 9, 3, 7, 10, 14 or 15 too.
 fn refusals(record: &Record) -> Vec<Option<Refusal>> {
     let last = record.events[record.count as usize - 1].time;
-    let wrong = [(last, 1), (last, 0), (last, 65), (last - 1, 1), (0, 0)];
+    let before = last.saturating_sub(1);
+    let wrong = [(last, 1), (last, 0), (last, 65), (before, 1), (0, 0)];
     let takes = wrong.map(|(time, activity)| {
         let (next, answer) = record.clone().take(Event::new(time, activity));
         assert!(answer.is_ok() || next == *record, "a refused take");
