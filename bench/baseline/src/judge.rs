@@ -278,17 +278,19 @@ fn judge_activation(
 }
 
 /// The rows of the rules: a decided standing is carried over, any other follows from the events.
-/// Rules about the cycle stand idle there.
+/// Rules about the cycle stand idle there. The same pass counts them into the totals.
 pub fn judge_cells(
     running: bool,
     rules: &[Rule],
     events: &[Event],
     horizon: u32,
     cells: &mut [Standing; 4096],
+    totals: &mut [Totals; 16],
 ) {
     let mut flags = [false; 256];
     let flags = &mut flags[..events.len()];
-    for (rule, row) in rules.iter().zip(cells.chunks_exact_mut(256)) {
+    let rows = cells.chunks_exact_mut(256).zip(totals);
+    for (rule, (row, totals)) in rules.iter().zip(rows) {
         if rule.is_overall() {
             continue;
         }
@@ -302,6 +304,9 @@ pub fn judge_cells(
                 } else {
                     Standing::Idle
                 };
+            }
+            if *c != Standing::Idle {
+                totals.count(*c);
             }
         }
     }

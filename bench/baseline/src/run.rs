@@ -112,7 +112,7 @@ impl Run {
             overall,
             totals: [NO_TOTALS; 16],
         };
-        run.count_totals();
+        run.begin_totals();
         Ok(run)
     }
 
@@ -120,29 +120,23 @@ impl Run {
         &self.cells[k * 256..][..256]
     }
 
-    fn counted(&self, k: usize) -> Totals {
-        let mut t = NO_TOTALS;
-        t.count(self.zero(k));
-        for &s in &self.row(k)[..self.count] {
-            t.count(s);
-        }
-        t
-    }
-
-    /// Stores the totals of each rule.
-    pub fn count_totals(&mut self) {
+    /// Begins the totals of each rule with its position 0.
+    pub fn begin_totals(&mut self) {
         for k in 0..self.table.count {
-            self.totals[k] = self.counted(k);
+            self.totals[k] = NO_TOTALS;
+            self.totals[k].count(self.zero(k));
         }
     }
 
     /// Judges all standings of the running cycle, and counts them.
     pub fn judge(&mut self, horizon: u32) {
+        let events = &self.events[..self.count];
+        judge_overall(true, self.table.used(), events, horizon, &mut self.overall);
+        self.begin_totals();
         let rules = self.table.used();
         let events = &self.events[..self.count];
-        judge_cells(true, rules, events, horizon, &mut self.cells);
-        judge_overall(true, rules, events, horizon, &mut self.overall);
-        self.count_totals();
+        let (cells, totals) = (&mut self.cells, &mut self.totals);
+        judge_cells(true, rules, events, horizon, cells, totals);
     }
 
     #[inline(never)]
@@ -177,8 +171,11 @@ impl Run {
         if self.closed {
             return Err(9);
         }
-        let rules = self.table.used();
-        for (rule, row) in rules.iter().zip(self.cells.chunks_exact_mut(256)) {
+        let events = &self.events[..self.count];
+        judge_overall(false, self.table.used(), events, 0, &mut self.overall);
+        self.begin_totals();
+        let rows = self.cells.chunks_exact_mut(256).zip(&mut self.totals);
+        for (rule, (row, totals)) in self.table.used().iter().zip(rows) {
             let closing = if rule.code >= 8 {
                 Standing::Fulfilled(0)
             } else {
@@ -186,15 +183,15 @@ impl Run {
             };
             for c in row[..self.count]
                 .iter_mut()
-                .filter(|c| **c == Standing::Open)
+                .filter(|c| **c != Standing::Idle)
             {
-                *c = closing;
+                if *c == Standing::Open {
+                    *c = closing;
+                }
+                totals.count(*c);
             }
         }
-        let events = &self.events[..self.count];
-        judge_overall(false, rules, events, 0, &mut self.overall);
         self.closed = true;
-        self.count_totals();
         Ok(())
     }
 

@@ -277,19 +277,24 @@ pub fn read_notebook(rules: &[u8], cycle: &[u8]) -> Result<Run, (Which, Cause, u
     let table = read_rules(rules).map_err(|(cause, line)| (Which::Rules, cause, line))?;
     let read = read_cycle(cycle).map_err(|(cause, line)| (Which::Cycle, cause, line))?;
     let events = &read.events[..read.count];
-    let mut cells = [Standing::Idle; 4096];
-    judge_cells(false, table.used(), events, 0, &mut cells);
-    let mut overall = [Standing::Idle; 16];
-    judge_overall(false, table.used(), events, 0, &mut overall);
     let mut run = Run {
         closed: true,
         table,
         count: read.count,
         events: read.events,
-        cells,
-        overall,
+        cells: [Standing::Idle; 4096],
+        overall: [Standing::Idle; 16],
         totals: [NO_TOTALS; 16],
     };
-    run.count_totals();
+    judge_overall(false, table.used(), events, 0, &mut run.overall);
+    run.begin_totals();
+    judge_cells(
+        false,
+        table.used(),
+        events,
+        0,
+        &mut run.cells,
+        &mut run.totals,
+    );
     Ok(run)
 }
