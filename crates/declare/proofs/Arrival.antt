@@ -16,7 +16,7 @@ use Rattle.declare.specs.Lists.{all}
 use Rattle.declare.specs.Comparisons.{testOf, passes}
 use Rattle.declare.specs.Conditions.{comparisonsOf, testsOf, met}
 use Rattle.declare.specs.Events.{latest, isActivity, readingsInRange, wellFormed, nonFallingFrom, nonFalling, lastTime, noEvent, eventAt}
-use Rattle.declare.specs.Rules.{isTemplate, isReading, validComparison, noneTwice, validCondition, validWindow, validHead, fitsTemplate, validRule}
+use Rattle.declare.specs.Rules.{isTemplate, isReading, validComparison, validCondition, validWindow, validHead, fitsTemplate, validRule}
 use Rattle.declare.specs.Suits.{activationAt, beforeEnd, within, between, correlates, suits}
 use Rattle.declare.specs.Templates.{inReach, reachOf}
 use Rattle.declare.specs.Verdicts.{eligible}
@@ -130,7 +130,7 @@ readings-named a correlation c h = and-left _ _ h
 pub valid-comparisons : (correlation : Bool) (c : Condition) → validCondition correlation c ≡ true → all (validComparison correlation) (comparisonsOf c) ≡ true
 unfolding validCondition
 valid-comparisons correlation c v =
-    let p : (leb (c .count) 4 ≡ true) × (all (validComparison correlation) (comparisonsOf c) ≡ true) × (noneTwice (comparisonsOf c) ≡ true) = and₃ v in
+    let p : (leb (c .count) 4 ≡ true) × (all (validComparison correlation) (comparisonsOf c) ≡ true) = and₂ v in
     p .1
 
 pub tests-named : (a : Event) (correlation : Bool) (c : Condition) → validCondition correlation c ≡ true → all (λ t. isReading (t .reading)) (testsOf a c) ≡ true

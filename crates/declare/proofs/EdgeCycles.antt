@@ -5,7 +5,7 @@ use Rattle.declare.specs.Comparisons.{plus, holds, referenceOf, testOf, 
 use Rattle.declare.specs.Conditions.{comparisonsOf, testsOf, met}
 use Rattle.declare.specs.Events.{least, greatest, inRange, isActivity, readingsInRange, wellFormed, nonFallingFrom, nonFalling, lastFrom, lastTime, noEvent, eventAt, firstTime, emptySlot}
 use Rattle.declare.specs.Overall.{isOverall, overallOf}
-use Rattle.declare.specs.Rules.{isTemplate, isReading, validReference, validComparison, noneTwice, validCondition, validEnd, validWindow, validHead, fitsTemplate, validRule, rulesOf, validTable}
+use Rattle.declare.specs.Rules.{isTemplate, isReading, validReference, validComparison, validCondition, validEnd, validWindow, validHead, fitsTemplate, validRule, rulesOf, validTable}
 use Rattle.declare.specs.Suits.{occurs, isActivation, activationAt, beforeEnd, within, correlates, suits}
 use Rattle.declare.specs.Templates.{templates, templateOf, inReach}
 use Rattle.declare.specs.Verdicts.{occursAt, fitsAt, eligible, target, decided, seen, formulaOf, decision, verdict}
@@ -19,11 +19,12 @@ use Rattle.declare.specs.TargetCases.{eventsFrom, targets}
 use Rattle.declare.specs.OverallCases.{starts, overalls}
 use Rattle.declare.specs.TemplateCases.{activations, windows, twelve}
 use Rattle.declare.specs.ConditionCases.{comparisons, conditions}
+use Rattle.declare.specs.BandCases.{bands, banded}
 use Rattle.declare.specs.LimitCases.{limits, withLine, withoutLine, offers, answers, takenTimes}
 use Rattle.declare.specs.Checked.{Checked}
 
 pub checked : Checked
-unfolding starts overalls firstTime emptySlot isOverall overallOf fitsTemplate occurs occursAt fitsAt seen formulaOf decision canOccur isSettled closing closed offers answers takenTimes admits isAccepted isTaken takenAfter taken _>>_ require withLine withoutLine numberOf hasLine edgeCycles listing activations windows twelve comparisons conditions limits eventsFrom targets all any noneBetween firstUpTo lastUpTo firstPast nearest plus holds referenceOf testOf passes comparisonsOf testsOf met least greatest inRange isActivity readingsInRange wellFormed nonFallingFrom nonFalling lastFrom lastTime noEvent eventAt isTemplate isReading validReference validComparison noneTwice validCondition validEnd validWindow validHead validRule rulesOf validTable isActivation activationAt beforeEnd within correlates suits templates templateOf inReach eligible target decided verdict horizon continuation asks meets after edgeOf edgeAt edge candidates someMeets satisfiable soonest hasRoom canCome undecided standing
+unfolding starts overalls firstTime emptySlot isOverall overallOf fitsTemplate occurs occursAt fitsAt seen formulaOf decision canOccur isSettled closing closed offers answers takenTimes admits isAccepted isTaken takenAfter taken _>>_ require withLine withoutLine numberOf hasLine edgeCycles listing activations windows twelve comparisons conditions bands banded limits eventsFrom targets all any noneBetween firstUpTo lastUpTo firstPast nearest plus holds referenceOf testOf passes comparisonsOf testsOf met least greatest inRange isActivity readingsInRange wellFormed nonFallingFrom nonFalling lastFrom lastTime noEvent eventAt isTemplate isReading validReference validComparison validCondition validEnd validWindow validHead validRule rulesOf validTable isActivation activationAt beforeEnd within correlates suits templates templateOf inReach eligible target decided verdict horizon continuation asks meets after edgeOf edgeAt edge candidates someMeets satisfiable soonest hasRoom canCome undecided standing
 checked =
     record {
       edge-cycles = refl;
@@ -36,6 +37,8 @@ checked =
       of-overalls = refl;
       of-comparisons = refl;
       of-conditions = refl;
+      of-bands = refl;
+      of-banded = refl;
       of-limits = refl;
       of-numbers = (refl, refl);
       of-offers = refl;

@@ -9,6 +9,7 @@ use Rattle.declare.specs.TemplateCases.{activations, windows, twelve}
 use Rattle.declare.specs.TargetCases.{targets}
 use Rattle.declare.specs.OverallCases.{starts, overalls}
 use Rattle.declare.specs.ConditionCases.{Check, comparisons, conditions}
+use Rattle.declare.specs.BandCases.{bands, banded}
 use Rattle.declare.specs.LimitCases.{limits, withoutLine, withLine, offers, answers, takenTimes}
 
 abbrev pub AsExpected : List Case → Type 0
@@ -28,8 +29,10 @@ pub record Checked : Type 0 where
   pub of-overalls : AsExpected overalls
   pub of-comparisons : ChecksAsExpected comparisons
   pub of-conditions : ChecksAsExpected conditions
+  pub of-bands : ChecksAsExpected bands
+  pub of-banded : AsExpected banded
   pub of-limits : ChecksAsExpected limits
-  pub of-numbers : (withLine ≡ 1 ∷ 2 ∷ 3 ∷ 4 ∷ 5 ∷ 6 ∷ 7 ∷ 8 ∷ 12 ∷ 13 ∷ 16 ∷ []) × (withoutLine ≡ 9 ∷ 10 ∷ 11 ∷ 14 ∷ 15 ∷ [])
+  pub of-numbers : (withLine ≡ 1 ∷ 2 ∷ 3 ∷ 4 ∷ 6 ∷ 7 ∷ 8 ∷ 12 ∷ 13 ∷ 16 ∷ 17 ∷ []) × (withoutLine ≡ 9 ∷ 10 ∷ 11 ∷ 14 ∷ 15 ∷ [])
   pub of-offers : offers ≡ answers
   pub of-taken : takenTimes ≡ 3 ∷ 3 ∷ 7 ∷ []
   pub of-lines : (all hasLine withLine ≡ true) × (any hasLine withoutLine ≡ false)

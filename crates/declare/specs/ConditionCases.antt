@@ -3,10 +3,10 @@ use mathlib.Core.Bool.{Bool, true, false}
 use mathlib.Core.List.{List, [], _∷_}
 use Prim.Native.Nat.{ℕ}
 use lib.IntN.{ℤ, pos, negsuc}
-use Rattle.declare.specs.Types.{Value, Event, Operator, Equal, NotEqual, Less, AtMost, Greater, AtLeast, Constant, Activation, Comparison, Condition}
+use Rattle.declare.specs.Types.{Value, Event, Operator, Equal, NotEqual, Less, AtMost, Greater, AtLeast, Constant, Activation, Condition}
 use Rattle.declare.specs.Conditions.{testsOf, met}
 use Rattle.declare.specs.Reachability.{satisfiable}
-use Rattle.declare.specs.EdgeCycles.{compare, unused, always, when, event, reads}
+use Rattle.declare.specs.EdgeCycles.{compare, always, when, event, reads}
 
 pub record Check : Type 0 where
   pub found : Bool
@@ -116,11 +116,6 @@ each count a b c d =
 abbrev pub reading : ℕ → ℤ → Bool
 reading g v = met (when Equal (Activation g (pos 0))) four (reads 0 2 v)
 
--- comparisons of one reading
-abbrev pub together : ℕ → Comparison → Comparison → Comparison → Bool
-together count a b c =
-    satisfiable (testsOf (event 0 1) (record { count = count; first = a; second = b; third = c; fourth = unused }))
-
 unfoldable pub conditions : List Check
 conditions =
     reading 1 (pos 11) gives true
@@ -135,9 +130,4 @@ conditions =
     ∷ met (each 3 (pos 11) (pos 12) (pos 15) (pos 14)) four four gives false
     ∷ met (each 2 (pos 11) (pos 15) (pos 13) (pos 14)) four four gives false
     ∷ met (each 1 (pos 15) (pos 12) (pos 13) (pos 14)) four four gives false
-    -- all comparisons of a reading are asked of one number
-    ∷ together 2 (compare 1 Greater (Constant (pos 5))) (compare 1 Less (Constant (pos 7))) unused gives true
-    ∷ together 3 (compare 1 Greater (Constant (pos 5))) (compare 1 Less (Constant (pos 7))) (compare 1 NotEqual (Constant (pos 6))) gives false
-    ∷ together 3 (compare 1 Greater (Constant (pos 5))) (compare 1 Less (Constant (pos 7))) (compare 2 NotEqual (Constant (pos 6))) gives true
-    ∷ together 2 (compare 4 AtMost (Constant MIN)) (compare 4 NotEqual (Constant MIN)) unused gives false
     ∷ []

@@ -24,5 +24,6 @@ pub mod TemplateCases
 pub mod TargetCases
 pub mod OverallCases
 pub mod ConditionCases
+pub mod BandCases
 pub mod LimitCases
 pub mod Checked

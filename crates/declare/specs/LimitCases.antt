@@ -3,7 +3,7 @@ use mathlib.Core.Bool.{true, false}
 use mathlib.Core.List.{List, [], _∷_, map}
 use Prim.Native.Nat.{ℕ}
 use lib.IntN.{pos, negsuc}
-use Rattle.declare.specs.Types.{Blank, Value, Event, Equal, Less, Constant, Activation, Condition, End, Never, At, Rule, Table, FieldCount, NumberForm, OutOfRange, ComparisonForm, ReadingTwice, EmptyWindow, TimeFalls, TooMany, WrongPhase, NotFound, InvalidRecord, NoLineEnd, NoFile, TallyOverflow, BufferTooShort, TemplateMismatch}
+use Rattle.declare.specs.Types.{Blank, Value, Event, Equal, Less, Constant, Activation, Condition, End, Never, At, Rule, Table, FieldCount, NumberForm, OutOfRange, ComparisonForm, EmptyWindow, TimeFalls, TooMany, WrongPhase, NotFound, InvalidRecord, NoLineEnd, NoFile, TallyOverflow, BufferTooShort, TemplateMismatch, TooManyComparisons}
 use Rattle.declare.specs.Events.{wellFormed, nonFalling}
 use Rattle.declare.specs.Rules.{validRule, validTable}
 use Rattle.declare.specs.Continuations.{continuation}
@@ -92,11 +92,10 @@ limits =
     ∷ validRule (conditioned always (when Equal (Constant MIN))) gives true
     ∷ validRule (conditioned always (when Equal (Constant (pos 2147483648)))) gives false
     ∷ validRule (conditioned always (when Equal (Activation 1 (negsuc 2147483648)))) gives false
-    -- no reading twice, in either condition; readings 1 to 4; at most four comparisons
+    -- on any readings, in either condition; readings 1 to 4; at most four comparisons
     ∷ validRule (conditioned always (pair 1 2)) gives true
-    ∷ validRule (conditioned always (pair 1 1)) gives false
-    ∷ validRule (conditioned (pair 3 3) always) gives false
-    ∷ validRule (conditioned always (record { count = 3; first = compare 1 Equal (Constant (pos 0)); second = compare 2 Equal (Constant (pos 0)); third = compare 2 Less (Constant (pos 0)); fourth = unused })) gives false
+    ∷ validRule (conditioned always (pair 1 1)) gives true
+    ∷ validRule (conditioned (pair 3 3) always) gives true
     ∷ validRule (conditioned always (pair 0 1)) gives false
     ∷ validRule (conditioned always (pair 1 5)) gives false
     ∷ validRule (conditioned always (counted 4)) gives true
@@ -136,7 +135,7 @@ withoutLine = map numberOf (WrongPhase ∷ NotFound ∷ InvalidRecord ∷ TallyO
 
 unfoldable pub withLine : List ℕ
 withLine =
-    map numberOf (FieldCount ∷ NumberForm ∷ OutOfRange ∷ ComparisonForm ∷ ReadingTwice ∷ EmptyWindow ∷ TimeFalls ∷ TooMany ∷ NoLineEnd ∷ NoFile ∷ TemplateMismatch ∷ [])
+    map numberOf (FieldCount ∷ NumberForm ∷ OutOfRange ∷ ComparisonForm ∷ EmptyWindow ∷ TimeFalls ∷ TooMany ∷ NoLineEnd ∷ NoFile ∷ TemplateMismatch ∷ TooManyComparisons ∷ [])
 
 -- ---- takes
 

@@ -46,34 +46,34 @@ after s t = event s 1 ∷ event t 2 ∷ []
 abbrev pub prior : ℕ → ℕ → List Event
 prior s t = event s 2 ∷ event t 1 ∷ []
 
-abbrev pub banded : ℕ → Rule
-banded code = rule code 2 (window 10 (At 20)) always
+abbrev pub windowed : ℕ → Rule
+windowed code = rule code 2 (window 10 (At 20)) always
 
 unfoldable pub windows : List Case
 windows =
-    verdict (banded 1) (after 100 109) 1 is Violated 0
-    ∷ verdict (banded 1) (after 100 110) 1 is Fulfilled 2
-    ∷ verdict (banded 1) (after 100 119) 1 is Fulfilled 2
-    ∷ verdict (banded 1) (after 100 120) 1 is Violated 0
-    ∷ verdict (banded 1) (prior 100 109) 2 is Violated 0
-    ∷ verdict (banded 1) (prior 100 110) 2 is Fulfilled 1
-    ∷ verdict (banded 1) (prior 100 119) 2 is Fulfilled 1
-    ∷ verdict (banded 1) (prior 100 120) 2 is Violated 0
-    ∷ verdict (banded 5) (prior 100 110) 2 is Fulfilled 1
-    ∷ verdict (banded 5) (prior 100 120) 2 is Violated 0
+    verdict (windowed 1) (after 100 109) 1 is Violated 0
+    ∷ verdict (windowed 1) (after 100 110) 1 is Fulfilled 2
+    ∷ verdict (windowed 1) (after 100 119) 1 is Fulfilled 2
+    ∷ verdict (windowed 1) (after 100 120) 1 is Violated 0
+    ∷ verdict (windowed 1) (prior 100 109) 2 is Violated 0
+    ∷ verdict (windowed 1) (prior 100 110) 2 is Fulfilled 1
+    ∷ verdict (windowed 1) (prior 100 119) 2 is Fulfilled 1
+    ∷ verdict (windowed 1) (prior 100 120) 2 is Violated 0
+    ∷ verdict (windowed 5) (prior 100 110) 2 is Fulfilled 1
+    ∷ verdict (windowed 5) (prior 100 120) 2 is Violated 0
     -- b is no length: 19 after the activation is the last chance, not a + b
-    ∷ live (banded 2) (event 100 1 ∷ event 119 9 ∷ []) 1 is Open
-    ∷ live (banded 2) (event 100 1 ∷ event 120 9 ∷ []) 1 is Violated 0
+    ∷ live (windowed 2) (event 100 1 ∷ event 119 9 ∷ []) 1 is Open
+    ∷ live (windowed 2) (event 100 1 ∷ event 120 9 ∷ []) 1 is Violated 0
     -- in 3 the window runs from the activation, not from the event before the target
-    ∷ live (banded 3) (event 100 1 ∷ event 110 9 ∷ event 125 2 ∷ []) 1 is Violated 0
-    ∷ live (banded 3) (event 100 1 ∷ event 110 9 ∷ event 115 2 ∷ []) 1 is Fulfilled 3
+    ∷ live (windowed 3) (event 100 1 ∷ event 110 9 ∷ event 125 2 ∷ []) 1 is Violated 0
+    ∷ live (windowed 3) (event 100 1 ∷ event 110 9 ∷ event 115 2 ∷ []) 1 is Fulfilled 3
     -- the last time there is, and times that repeat
     ∷ live (rule 2 2 (window 0 Never) always) (event 4294967295 1 ∷ []) 1 is Open
     ∷ live (rule 2 2 (window 0 (At 1)) always) (event 7 1 ∷ event 7 9 ∷ []) 1 is Open
     ∷ live (rule 2 2 (window 1 Never) always) (event 4294967295 1 ∷ []) 1 is Violated 0
     -- a later horizon ends the window sooner, also for the next event
-    ∷ standing (banded 4) (event 100 1 ∷ []) 119 1 is Open
-    ∷ standing (banded 4) (event 100 1 ∷ []) 120 1 is Violated 0
+    ∷ standing (windowed 4) (event 100 1 ∷ []) 119 1 is Open
+    ∷ standing (windowed 4) (event 100 1 ∷ []) 120 1 is Violated 0
     ∷ []
 
 -- ---- the twelve templates, both ways, with the target that is named

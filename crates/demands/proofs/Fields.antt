@@ -2,15 +2,14 @@
 -- of the same place.
 use mathlib.Core.Path.{_≡_, refl, sym, ap, _∙_}
 use mathlib.Core.Bool.{Bool, true, false, not, cond, _&&_, _||_, and-false, or-false, false≢true}
-use mathlib.Core.List.{List, [], _∷_, _++_, map, map-append}
+use mathlib.Core.List.{List, [], _∷_, _++_}
 use Prim.Native.Nat.{ℕ, _+_, _-_}
-use native.Mathlib.Omega.{arith}
-use lib.Dec.{leb, eqb}
+use lib.Dec.{leb, ltb, eqb}
 use lib.IntN.{ℤ, pos, negsuc}
 use lib.Signed.{leZ}
-use lib.ListN.{getD, drop}
+use lib.ListN.{length, getD, drop, length-append}
 use lib.Seq.{getD-drop, drop-drop}
-use borrow.Author.Tests.{eqb-true, eqb-false, eq-eqb, ne-eqb}
+use borrow.Author.Tests.{eqb-true}
 use Rattle.declare.specs.declared.Reading.the-variants.{Blank}
 use Rattle.declare.specs.declared.End.{End}
 use Rattle.declare.specs.declared.End.the-variants.{Never, At}
@@ -20,7 +19,7 @@ use Rattle.declare.specs.declared.Comparison.{Comparison}
 use Rattle.declare.specs.declared.Operand.the-variants.{Exact}
 use Rattle.declare.specs.declared.Rule.{Rule}
 use Rattle.declare.specs.declared.Refusal.{Refusal}
-use Rattle.declare.specs.declared.Refusal.the-variants.{NumberForm, OutOfRange, ComparisonForm, ReadingTwice, EmptyWindow}
+use Rattle.declare.specs.declared.Refusal.the-variants.{NumberForm, OutOfRange, ComparisonForm, EmptyWindow, TooManyComparisons}
 use Rattle.declare.specs.Lists.{any}
 use Rattle.declare.specs.Rules.{fitsTemplate, noCondition}
 use Rattle.declare.specs.Events.{least, greatest, inRange}
@@ -37,11 +36,10 @@ use Rattle.number.specs.Number.{digit, zeroAlone, positive, negative, naturalFo
 use Rattle.line.specs.Fields.{split}
 use Rattle.declare.specs.Answers.{Answer, accepted, refused, _>>=_, _>>_, require}
 use Rattle.line.specs.Values.{faultNumber, naturalAnswer, numberField, integerAnswer, readingField}
-use Rattle.declare.proofs.Answers.{no-of, of-of, through, required}
+use Rattle.declare.proofs.Answers.{no-of, of-of, through}
 use Rattle.rule_text.specs.Comparisons.{readingDigit, digitOf, operatorOf, kNumber, kAnswer, kField, constantField, activationField, referenceField, comparisonField}
-use Rattle.rule_text.specs.Conditions.{comma, tested, comparisonsAfter, conditionOf, comparisonsField, conditionField}
+use Rattle.rule_text.specs.Conditions.{comma, comparisonsAfter, conditionOf, comparisonsField, conditionField}
 use Rattle.rule_text.specs.Rules.{endField, isAbove}
-use Rattle.rule_text.proofs.Comparisons.{digit-low}
 use Rattle.demands.specs.Causes.{Cause, cause}
 use Rattle.demands.specs.LineCauses.{numberCauses, unlessDash, readingCauses, isOperator, activationForm, referenceForm, constantIn, comparisonForm, comparisonCauses, conditionCauses, mismatch}
 use Rattle.demands.proofs.Chains.{Has, checked, inOrder, has-none, has-one, has-unless, has-then}
@@ -228,52 +226,20 @@ has-comparison correlation s =
 
 -- ---- conditions
 
--- the digit that names the reading of a comparison
-abbrev digitByte : Comparison → ℕ
-digitByte c = 48 + c .reading
-
-digit-byte : (b g : ℕ) → digitOf b ≡ accepted g → b ≡ 48 + g
-unfolding digitOf
-digit-byte b g e =
-    let r = required (readingDigit b) 4 (accepted (b - 48)) g e in
-    let m : b - 48 ≡ g = of-of (r .1) in
-    omega (arith, digit-low b (r .0))
-
-reading-byte : (correlation : Bool) (s : List ℕ) (c : Comparison) → comparisonField correlation s ≡ accepted c → getD s 0 0 ≡ digitByte c
-unfolding comparisonField
-reading-byte correlation s c e =
-    let d = through _ _ c e in
-    let o = through _ _ c (d .rest) in
-    let r = through _ _ c (o .rest) in
-    digit-byte (getD s 0 0) (d .value) (d .first) ∙ ap digitByte (of-of (r .rest))
-
-same-byte : (x y : ℕ) → eqb (48 + x) (48 + y) ≡ eqb y x
-same-byte x y = go (eqb y x) refl
-  where
-    go : (t : Bool) → eqb y x ≡ t → eqb (48 + x) (48 + y) ≡ t
-    go true e = eq-eqb (48 + x) (48 + y) (omega (arith, eqb-true y x e))
-    go false e = ne-eqb (48 + x) (48 + y) (λ f. eqb-false y x e (omega arith))
-
--- "reading compared a second time"
-twice-is : (above : List Comparison) (reading : ℕ) → any (eqb (48 + reading)) (map digitByte above) ≡ tested reading above
-unfolding any tested
-twice-is [] reading = refl
-twice-is (c ∷ above) reading = rw (same-byte reading (c .reading), twice-is above reading)
-
-has-comparisons : (correlation : Bool) (above : List Comparison) (fields : List (List ℕ)) → Has (comparisonsAfter correlation above fields) (comparisonCauses correlation (map digitByte above) fields)
+has-comparisons : (correlation : Bool) (above : List Comparison) (fields : List (List ℕ)) → Has (comparisonsAfter correlation above fields) (comparisonCauses correlation (length above) fields)
 unfolding comparisonsAfter comparisonCauses numberOf
 has-comparisons correlation above [] = has-none above
 has-comparisons correlation above (s ∷ fields) =
-    has-then (comparisonField correlation s) _ (cause ComparisonForm (not (comparisonForm correlation s)) ∷ cause OutOfRange (not (inRange (Exact (integerValue (constantIn (drop 2 s)))))) ∷ []) (cause ReadingTwice (any (eqb (getD s 0 0)) (map digitByte above)) ∷ comparisonCauses correlation (map digitByte above ++ (getD s 0 0 ∷ [])) fields) (has-comparison correlation s)
-    (λ c e. further c (reading-byte correlation s c e) (has-comparisons correlation (above ++ (c ∷ [])) fields))
+    has-then (comparisonField correlation s) _ (cause ComparisonForm (not (comparisonForm correlation s)) ∷ cause OutOfRange (not (inRange (Exact (integerValue (constantIn (drop 2 s)))))) ∷ []) (cause TooManyComparisons (leb 4 (length above)) ∷ comparisonCauses correlation (length above + 1) fields) (has-comparison correlation s)
+    (λ c e. further c (has-comparisons correlation (above ++ (c ∷ [])) fields))
   where
-    further : (c : Comparison) → getD s 0 0 ≡ digitByte c → Has (comparisonsAfter correlation (above ++ (c ∷ [])) fields) (comparisonCauses correlation (map digitByte (above ++ (c ∷ []))) fields) → Has (require (not (tested (c .reading) above)) 5 >> comparisonsAfter correlation (above ++ (c ∷ [])) fields) (cause ReadingTwice (any (eqb (getD s 0 0)) (map digitByte above)) ∷ comparisonCauses correlation (map digitByte above ++ (getD s 0 0 ∷ [])) fields)
-    further c b h =
-        rw (b, twice-is above (c .reading), ← map-append digitByte above (c ∷ []))
-        (has-unless (tested (c .reading) above) ReadingTwice 5 _ _ refl h)
+    further : (c : Comparison) → Has (comparisonsAfter correlation (above ++ (c ∷ [])) fields) (comparisonCauses correlation (length (above ++ (c ∷ []))) fields) → Has (require (ltb (length above) 4) 17 >> comparisonsAfter correlation (above ++ (c ∷ [])) fields) (cause TooManyComparisons (leb 4 (length above)) ∷ comparisonCauses correlation (length above + 1) fields)
+    further c h =
+        rw (ltb-not (length above) 4, ← length-append above (c ∷ []))
+        (has-unless (leb 4 (length above)) TooManyComparisons 17 _ _ refl h)
 
 pub has-condition : (correlation : Bool) (field : List ℕ) → Has (conditionField correlation field) (conditionCauses correlation field)
 unfolding conditionField comparisonsField conditionCauses
 has-condition correlation field =
-    has-dash field noCondition _ (comparisonCauses correlation [] (split comma field))
+    has-dash field noCondition _ (comparisonCauses correlation 0 (split comma field))
     (has-made (comparisonsAfter correlation [] (split comma field)) conditionOf _ (has-comparisons correlation [] (split comma field)))

@@ -3,7 +3,7 @@
 use mathlib.Core.Path.{_≡_, refl, sym, ap, _∙_}
 use mathlib.Core.Bool.{Bool, true, false, not, cond}
 use mathlib.Core.List.{List, [], _∷_, _++_, append-assoc}
-use Prim.Native.Nat.{ℕ}
+use Prim.Native.Nat.{ℕ, _+_}
 use lib.Dec.{leb, ltb, eqb}
 use lib.ListN.{length, getD}
 use Rattle.declare.specs.declared.Event.{Event}
@@ -156,14 +156,15 @@ module _ (numbers : List ℕ) where
     unfolding readingCauses all numberOf
     reading-numbered field = dash-numbered field _ (rw (two, three))
 
-    comparison-numbered : any (eqb 4) numbers ≡ true → any (eqb 5) numbers ≡ true → (correlation : Bool) (readings : List ℕ) (fields : List (List ℕ)) → all numbered (comparisonCauses correlation readings fields) ≡ true
+    comparison-numbered : any (eqb 4) numbers ≡ true → any (eqb 17) numbers ≡ true → (correlation : Bool) (before : ℕ) (fields : List (List ℕ)) → all numbered (comparisonCauses correlation before fields) ≡ true
     unfolding comparisonCauses all numberOf
-    comparison-numbered four five correlation readings [] = refl
-    comparison-numbered four five correlation readings (s ∷ fields) = rw (three, four, five) (comparison-numbered four five correlation (readings ++ (getD s 0 0 ∷ [])) fields)
+    comparison-numbered four seventeen correlation before [] = refl
+    comparison-numbered four seventeen correlation before (s ∷ fields) = rw (three, four, seventeen) (comparison-numbered four seventeen correlation (before + 1) fields)
 
-    condition-numbered : any (eqb 4) numbers ≡ true → any (eqb 5) numbers ≡ true → (correlation : Bool) (field : List ℕ) → all numbered (conditionCauses correlation field) ≡ true
+    condition-numbered : any (eqb 4) numbers ≡ true → any (eqb 17) numbers ≡ true → (correlation : Bool) (field : List ℕ) → all numbered (conditionCauses correlation field) ≡ true
     unfolding conditionCauses
-    condition-numbered four five correlation field = dash-numbered field _ (comparison-numbered four five correlation [] (split comma field))
+    condition-numbered four seventeen correlation field =
+        dash-numbered field _ (comparison-numbered four seventeen correlation 0 (split comma field))
 
 abbrev pub eventNumbers : List ℕ
 eventNumbers = 1 ∷ 2 ∷ 3 ∷ 7 ∷ 8 ∷ 12 ∷ []
@@ -185,7 +186,7 @@ event-numbered above fields =
     reading = reading-numbered ns refl refl
 
 abbrev pub ruleNumbers : List ℕ
-ruleNumbers = 1 ∷ 2 ∷ 3 ∷ 4 ∷ 5 ∷ 6 ∷ 8 ∷ 12 ∷ 16 ∷ []
+ruleNumbers = 1 ∷ 2 ∷ 3 ∷ 4 ∷ 6 ∷ 8 ∷ 12 ∷ 16 ∷ 17 ∷ []
 
 pub rule-numbered : (above : List Rule) (fields : List (List ℕ)) → all (numbered ruleNumbers) (ruleCauses above fields) ≡ true
 unfolding ruleCauses any numberOf

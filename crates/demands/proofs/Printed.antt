@@ -210,16 +210,17 @@ module _ (rules cycle : List ℕ) where
 
 -- ---- how much is printed
 
-few-number : (ns : List ℕ) (n : ℕ) → all (λ m. leb m 16) ns ≡ true → any (eqb n) ns ≡ true → n ≤ 16
+-- numbers of two digits
+two-digits : (ns : List ℕ) (n : ℕ) → all (λ m. leb m 99) ns ≡ true → any (eqb n) ns ≡ true → n ≤ 99
 unfolding all any
-few-number [] n h e = absurd (true≢false (sym e))
-few-number (m ∷ ns) n h e = go (eqb n m) refl (few-number ns n (p .1))
+two-digits [] n h e = absurd (true≢false (sym e))
+two-digits (m ∷ ns) n h e = go (eqb n m) refl (two-digits ns n (p .1))
   where
-    p : (leb m 16 ≡ true) × (all (λ m. leb m 16) ns ≡ true)
+    p : (leb m 99 ≡ true) × (all (λ m. leb m 99) ns ≡ true)
     p = and₂ h
 
-    go : (t : Bool) → eqb n m ≡ t → (any (eqb n) ns ≡ true → n ≤ 16) → n ≤ 16
-    go true x f = omega (arith, eqb-true n m x, leb-true m 16 (p .0))
+    go : (t : Bool) → eqb n m ≡ t → (any (eqb n) ns ≡ true → n ≤ 99) → n ≤ 99
+    go true x f = omega (arith, eqb-true n m x, leb-true m 99 (p .0))
     go false x f = f (rw x at e)
 
 report-few : (r : Run) → validRun r ≡ true → length (writtenText lineFields (reportLines r)) ≤ printedBytes
@@ -227,12 +228,12 @@ unfolding reportOf
 report-few r v = report-within r v .most
 
 module _ (rules cycle : List ℕ) where
-  refused-number : (text : Text) (n line : ℕ) → notebookOf rules cycle ≡ notRead text n line → n ≤ 16
+  refused-number : (text : Text) (n line : ℕ) → notebookOf rules cycle ≡ notRead text n line → n ≤ 99
   unfolding all
   refused-number Rules n line e =
-      few-number _ n refl (demand1 .rules-text rules .numbered n line (demand1 .notebook rules cycle .refuses-rules n line .0 e))
+      two-digits _ n refl (demand1 .rules-text rules .numbered n line (demand1 .notebook rules cycle .refuses-rules n line .0 e))
   refused-number Cycle n line e =
-      few-number _ n refl (demand1 .cycle-text cycle .numbered n line (demand1 .notebook rules cycle .refuses-cycle n line .0 e .1))
+      two-digits _ n refl (demand1 .cycle-text cycle .numbered n line (demand1 .notebook rules cycle .refuses-cycle n line .0 e .1))
 
   printed-few : length (printedOf rules cycle) ≤ printedBytes
   unfolding printedOf printedLines

@@ -142,6 +142,6 @@ pub record Demand1 : Type 0 where
       → writeAnswer answer ≡ refused n
       → after ≡ before
   -- the texts, with the numbers that their readers can give
-  pub rules-text : (text : List ℕ) → Reads ruleCauses rulesTextOf (1 ∷ 2 ∷ 3 ∷ 4 ∷ 5 ∷ 6 ∷ 8 ∷ 12 ∷ 16 ∷ []) text
+  pub rules-text : (text : List ℕ) → Reads ruleCauses rulesTextOf (1 ∷ 2 ∷ 3 ∷ 4 ∷ 6 ∷ 8 ∷ 12 ∷ 16 ∷ 17 ∷ []) text
   pub cycle-text : (text : List ℕ) → Reads eventCauses cycleTextOf (1 ∷ 2 ∷ 3 ∷ 7 ∷ 8 ∷ 12 ∷ []) text
   pub notebook : (rules cycle : List ℕ) → ReadsBoth rules cycle

@@ -1,17 +1,18 @@
 -- The causes for which a line of a text is refused, in document 01's order: "12, 1, then field by
 -- field 2 or 4, 3, 5 (in a condition comparison by comparison), then 6 or 7, then 8"; 16 "follows
--- 6" (document 02). Each is a test of the line's own bytes and of the records above it.
+-- 6", and 17 stands "where 5 stood" (document 02). Each is a test of the line's own bytes and of the
+-- records above it.
 use mathlib.Core.Bool.{Bool, true, false, not, cond, _&&_, _||_}
 use mathlib.Core.List.{List, [], _∷_, _++_}
-use Prim.Native.Nat.{ℕ}
+use Prim.Native.Nat.{ℕ, _+_}
 use lib.Dec.{leb, ltb, eqb}
 use lib.ListN.{length, getD, drop}
 use Rattle.declare.specs.declared.Event.{Event}
 use Rattle.declare.specs.declared.Rule.{Rule}
 use Rattle.declare.specs.declared.Operand.the-variants.{Exact}
-use Rattle.declare.specs.declared.Refusal.the-variants.{FieldCount, NumberForm, OutOfRange, ComparisonForm, ReadingTwice, EmptyWindow, TimeFalls, TooMany, TemplateMismatch}
+use Rattle.declare.specs.declared.Refusal.the-variants.{FieldCount, NumberForm, OutOfRange, ComparisonForm, EmptyWindow, TimeFalls, TooMany, TemplateMismatch, TooManyComparisons}
 use Rattle.declare.specs.Lists.{any}
-use Rattle.declare.specs.Limits.{lastActivity, lastTemplate, mostRules, mostEvents}
+use Rattle.declare.specs.Limits.{mostComparisons, lastActivity, lastTemplate, mostRules, mostEvents}
 use Rattle.declare.specs.Events.{latest, inRange, lastTime}
 use Rattle.declare.specs.Overall.{isOverall}
 use Rattle.number.specs.Number.{naturalForm, integerForm, dash, valueOf, integerValue}
@@ -69,17 +70,17 @@ unfoldable pub comparisonForm : Bool → List ℕ → Bool
 comparisonForm correlation s =
     readingDigit (getD s 0 0) && isOperator (getD s 1 0) && referenceForm correlation (drop 2 s)
 
--- "comparison by comparison" 4, 3, 5; `readings` are the digits of the comparisons before it
-unfoldable pub comparisonCauses : Bool → List ℕ → List (List ℕ) → List Cause
-comparisonCauses correlation readings [] = []
-comparisonCauses correlation readings (s ∷ more) =
+-- "comparison by comparison" 4, 3, 17; so many stand before it
+unfoldable pub comparisonCauses : Bool → ℕ → List (List ℕ) → List Cause
+comparisonCauses correlation before [] = []
+comparisonCauses correlation before (s ∷ more) =
     cause ComparisonForm (not (comparisonForm correlation s))
     ∷ cause OutOfRange (not (inRange (Exact (integerValue (constantIn (drop 2 s))))))
-    ∷ cause ReadingTwice (any (eqb (getD s 0 0)) readings)
-    ∷ comparisonCauses correlation (readings ++ (getD s 0 0 ∷ [])) more
+    ∷ cause TooManyComparisons (leb mostComparisons before)
+    ∷ comparisonCauses correlation (before + 1) more
 
 unfoldable pub conditionCauses : Bool → List ℕ → List Cause
-conditionCauses correlation field = unlessDash field (comparisonCauses correlation [] (split comma field))
+conditionCauses correlation field = unlessDash field (comparisonCauses correlation 0 (split comma field))
 
 -- ---- lines
 

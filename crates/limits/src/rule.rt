@@ -3,7 +3,7 @@ ghost use mathlib.Core.Path.{_≡_};
 ghost use mathlib.Core.Bool.{false, true};
 ghost use Rattle.declare.specs.Lists.{all};
 ghost use Rattle.declare.specs.Conditions.{comparisonsOf};
-ghost use Rattle.declare.specs.Rules.{isReading, validReference, validComparison, noneTwice, validCondition, validEnd, validWindow, validHead, fitsTemplate, validRule};
+ghost use Rattle.declare.specs.Rules.{isReading, validReference, validComparison, validCondition, validEnd, validWindow, validHead, fitsTemplate, validRule};
 use crate::event::in_range;
 use crate::event::is_activity;
 use declare::Comparison;
@@ -52,20 +52,6 @@ fn valid_comparisons(correlation: bool, c: Condition) -> bool
         & ((n < 4) | valid_comparison(correlation, c.fourth))
 }
 
-// Whether no two comparisons up to the count name the same reading.
-fn none_twice(c: Condition) -> bool
-    ensures { λ r. ⌜ r ≡ noneTwice (comparisonsOf c) ⌝ }
-{
-    let n = c.count;
-    let first = c.first.reading;
-    let second = c.second.reading;
-    let third = c.third.reading;
-    let fourth = c.fourth.reading;
-    ((n < 2) | (first != second))
-        & ((n < 3) | (first != third) & (second != third))
-        & ((n < 4) | (first != fourth) & (second != fourth) & (third != fourth))
-}
-
 // A condition of no comparisons is valid, and many rules have one.
 fn valid_condition(correlation: bool, c: Condition) -> bool
     ensures { λ r. ⌜ r ≡ validCondition correlation c ⌝ }
@@ -73,7 +59,7 @@ fn valid_condition(correlation: bool, c: Condition) -> bool
     if c.count < 1 {
         return true;
     }
-    (c.count <= 4) & valid_comparisons(correlation, c) & none_twice(c)
+    (c.count <= 4) & valid_comparisons(correlation, c)
 }
 
 // Whether b, the end, is above a, the start.

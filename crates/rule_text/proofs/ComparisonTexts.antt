@@ -178,9 +178,3 @@ comparison-read correlation (b ∷ p ∷ s) c h =
     let v = through (operatorOf p) _ c (w .rest) in
     let u = through (referenceField correlation s) (λ x. accepted (record { reading = w .value; operator = v .value; reference = x })) c (v .rest) in
     rw (← of-of (u .rest)) (comparison-is correlation b p (w .value) (v .value) s (u .value) (w .first) (v .first) (u .first))
-
--- a comparison that was read is of a reading 1 to 4
-pub comparison-reading : (correlation : Bool) (field : List ℕ) (c : Comparison) → comparisonField correlation field ≡ accepted c → isReading (c .reading) ≡ true
-unfolding validComparison
-comparison-reading correlation field c h =
-    and-left (isReading (c .reading)) (validReference correlation (c .reference)) (comparison-read correlation field c h .valid)

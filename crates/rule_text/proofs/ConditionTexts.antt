@@ -2,18 +2,18 @@
 -- the same bytes, is within its limits, has noComparison in the slots that are not in use, and is
 -- empty if and only if its field is `-`. By the laws of one comparison, comparison by comparison.
 use mathlib.Core.Path.{_≡_, refl, sym, _∙_, ap}
-use mathlib.Core.Bool.{Bool, true, false, not, cond, _&&_, and-false}
+use mathlib.Core.Bool.{Bool, true, false, cond, and-false}
 use mathlib.Core.List.{List, [], _∷_, _++_, map, append-nil, append-assoc}
 use Prim.Native.Nat.{ℕ, suc, _+_, _≤_, _<_}
 use native.Mathlib.Omega.{arith}
-use borrow.Author.Tests.{ne-eqb, le-leb, not-true}
-use lib.Dec.{leb, eqb}
-use lib.ListN.{length}
+use borrow.Author.Tests.{ne-eqb, le-leb, lt-ltb, ltb-true}
+use lib.Dec.{leb, ltb, eqb}
+use lib.ListN.{length, length-append}
 use Rattle.declare.specs.declared.Reading.the-variants.{Value}
-use Rattle.declare.specs.Lists.{all, any}
+use Rattle.declare.specs.Lists.{all}
 use Rattle.declare.specs.Conditions.{comparisonsOf}
-use Rattle.declare.specs.Rules.{isReading, noneTwice, noCondition, validReference, validComparison, validCondition}
-use Rattle.declare.proofs.Booleans.{and-left, and-right, both, both₃, and₂, and₃, all-append}
+use Rattle.declare.specs.Rules.{isReading, noCondition, validReference, validComparison, validCondition}
+use Rattle.declare.proofs.Booleans.{and-left, and-right, both, and₂, all-append}
 use Rattle.number.specs.Number.{dash, none}
 use Rattle.number.specs.Written.{digitsOf, integerText}
 use Rattle.number.proofs.Written.{written-digits}
@@ -26,10 +26,10 @@ use Rattle.line.proofs.Joined.{lacks, lacks-append, lacks-digits, split-joined,
 use Rattle.line.proofs.Values.{dash-text, lacks-reading}
 use Rattle.rule_text.specs.Types.{Operator, Equal, NotEqual, Less, AtMost, Greater, AtLeast, Reference, Constant, Activation, Comparison, Condition}
 use Rattle.rule_text.specs.Comparisons.{operatorByte, comparisonField}
-use Rattle.rule_text.specs.Conditions.{comma, tested, comparisonsAfter, conditionOf, comparisonsField, conditionField}
+use Rattle.rule_text.specs.Conditions.{comma, comparisonsAfter, conditionOf, comparisonsField, conditionField}
 use Rattle.rule_text.specs.Written.{referenceText, comparisonText, comparisonsText, conditionText, canonicalCondition}
-use Rattle.rule_text.proofs.ComparisonTexts.{reading-digit, comparison-written, comparison-read, comparison-reading}
-use Rattle.rule_text.proofs.Conditions.{Distinct, at-most-four, distinct-none, distinct-more, comparisons-slots}
+use Rattle.rule_text.proofs.ComparisonTexts.{reading-digit, comparison-written, comparison-read}
+use Rattle.rule_text.proofs.Conditions.{comparisons-slots, comparisons-few}
 
 -- ---- bytes that do not stand in a condition
 
@@ -82,26 +82,12 @@ module _ (b : ℕ) (low : b < 45) (mark : eqb 33 b ≡ false) where
 
 -- ---- a condition that is written
 
-later : {A : Type 0} (p : A → Bool) (xs : List A) (y : A) (ys : List A) → all p (xs ++ (y ∷ ys)) ≡ true → p y ≡ true
-unfolding all
-later p [] y ys h = and-left (p y) (all p ys) h
-later p (x ∷ xs) y ys h = later p xs y ys (and-right (p x) (all p (xs ++ (y ∷ ys))) h)
-
--- in a list where no reading is tested twice, an earlier comparison is of another reading
-not-tested : (cs : List Comparison) (c : Comparison) (ds : List Comparison) → noneTwice (cs ++ (c ∷ ds)) ≡ true → tested (c .reading) cs ≡ false
-unfolding noneTwice tested any
-not-tested [] c ds h = refl
-not-tested (d ∷ cs) c ds h =
-    let l : (all (λ e. not (eqb (d .reading) (e .reading))) (cs ++ (c ∷ ds)) && noneTwice (cs ++ (c ∷ ds))) ≡ true = h in
-    let n : not (eqb (d .reading) (c .reading)) ≡ true = later (λ e. not (eqb (d .reading) (e .reading))) cs c ds (and-left (all (λ e. not (eqb (d .reading) (e .reading))) (cs ++ (c ∷ ds))) (noneTwice (cs ++ (c ∷ ds))) l) in
-    rw (not-true (eqb (d .reading) (c .reading)) n) (not-tested cs c ds (and-right (all (λ e. not (eqb (d .reading) (e .reading))) (cs ++ (c ∷ ds))) (noneTwice (cs ++ (c ∷ ds))) l))
-
-after-written : (correlation : Bool) (cs ds : List Comparison) → all (validComparison correlation) ds ≡ true → noneTwice (cs ++ ds) ≡ true → comparisonsAfter correlation cs (map comparisonText ds) ≡ accepted (cs ++ ds)
+after-written : (correlation : Bool) (cs ds : List Comparison) → all (validComparison correlation) ds ≡ true → length (cs ++ ds) ≤ 4 → comparisonsAfter correlation cs (map comparisonText ds) ≡ accepted (cs ++ ds)
 unfolding all comparisonsAfter _>>=_ _>>_ require
-after-written correlation cs [] v n = ap accepted (sym (append-nil cs))
-after-written correlation cs (d ∷ ds) v n =
-    rw (comparison-written correlation d (and-left (validComparison correlation d) (all (validComparison correlation) ds) v), not-tested cs d ds n)
-    (after-written correlation (cs ++ (d ∷ [])) ds (and-right (validComparison correlation d) (all (validComparison correlation) ds) v) (rw (append-assoc cs (d ∷ []) ds) n)
+after-written correlation cs [] v l = ap accepted (sym (append-nil cs))
+after-written correlation cs (d ∷ ds) v l =
+    rw (comparison-written correlation d (and-left (validComparison correlation d) (all (validComparison correlation) ds) v), lt-ltb (length cs) 4 (omega (arith, length-append cs (d ∷ ds))))
+    (after-written correlation (cs ++ (d ∷ [])) ds (and-right (validComparison correlation d) (all (validComparison correlation) ds) v) (rw (append-assoc cs (d ∷ []) ds) l)
     ∙ ap accepted (append-assoc cs (d ∷ []) ds))
 
 -- a comparison has more bytes than `-`
@@ -109,47 +95,46 @@ not-dash : (c : Comparison) (cs : List Comparison) → isReading (c .reading) �
 unfolding joined comparisonText dash none
 not-dash c cs h = rw (reading-digit (c .reading) h) (and-false (eqb (48 + c .reading) 45))
 
-list-written : (correlation : Bool) (cs : List Comparison) → all (validComparison correlation) cs ≡ true → noneTwice cs ≡ true → conditionField correlation (comparisonsText cs) ≡ accepted (conditionOf cs)
+list-written : (correlation : Bool) (cs : List Comparison) → all (validComparison correlation) cs ≡ true → length cs ≤ 4 → conditionField correlation (comparisonsText cs) ≡ accepted (conditionOf cs)
 unfolding conditionField comparisonsField comparisonsText _>>=_ dash none noCondition conditionOf all validComparison
-list-written correlation [] v n = refl
-list-written correlation (c ∷ cs) v n =
+list-written correlation [] v l = refl
+list-written correlation (c ∷ cs) v l =
     let p : (isReading (c .reading) ≡ true) × (validReference correlation (c .reference) ≡ true) = and₂ (and-left (validComparison correlation c) (all (validComparison correlation) cs) v) in
-    rw (not-dash c cs (p .0), split-joined comma (comparisonText c) (map comparisonText cs) (comparisons-lack comma (omega arith) refl (c ∷ cs)), after-written correlation [] (c ∷ cs) v n)
+    rw (not-dash c cs (p .0), split-joined comma (comparisonText c) (map comparisonText cs) (comparisons-lack comma (omega arith) refl (c ∷ cs)), after-written correlation [] (c ∷ cs) v l)
 
 pub condition-written : (correlation : Bool) (c : Condition) → validCondition correlation c ≡ true → conditionField correlation (conditionText c) ≡ accepted (canonicalCondition c)
 unfolding validCondition conditionText canonicalCondition
 condition-written correlation c v =
-    let p : (leb (c .count) 4 ≡ true) × (all (validComparison correlation) (comparisonsOf c) ≡ true) × (noneTwice (comparisonsOf c) ≡ true) = and₃ v in
-    list-written correlation (comparisonsOf c) (p .1) (p .2)
+    list-written correlation (comparisonsOf c) (and-right (leb (c .count) 4) _ v) (comparisons-few c)
 
 -- ---- a condition that was read
 
 record ComparisonsRead (correlation : Bool) (cs : List Comparison) (fields : List (List ℕ)) (ds : List Comparison) : Type 0 where
   text : map comparisonText ds ≡ map comparisonText cs ++ fields
   valid : all (validComparison correlation) ds ≡ true
-  distinct : Distinct ds
+  few : length ds ≤ 4
 
 map-more : (cs : List Comparison) (c : Comparison) (field : List ℕ) (fields : List (List ℕ)) → comparisonText c ≡ field → map comparisonText (cs ++ (c ∷ [])) ++ fields ≡ map comparisonText cs ++ (field ∷ fields)
 map-more [] c field fields e = ap (λ (f : List ℕ). f ∷ fields) e
 map-more (d ∷ cs) c field fields e = ap (λ (fs : List (List ℕ)). comparisonText d ∷ fs) (map-more cs c field fields e)
 
-comparisons-read : (correlation : Bool) (cs : List Comparison) (fields : List (List ℕ)) (ds : List Comparison) → all (validComparison correlation) cs ≡ true → Distinct cs → comparisonsAfter correlation cs fields ≡ accepted ds → ComparisonsRead correlation cs fields ds
+comparisons-read : (correlation : Bool) (cs : List Comparison) (fields : List (List ℕ)) (ds : List Comparison) → all (validComparison correlation) cs ≡ true → length cs ≤ 4 → comparisonsAfter correlation cs fields ≡ accepted ds → ComparisonsRead correlation cs fields ds
 unfolding comparisonsAfter all
-comparisons-read correlation cs [] ds v n h =
+comparisons-read correlation cs [] ds v l h =
     let e : cs ≡ ds = of-of h in
     record {
       text = ap (map comparisonText) (sym e) ∙ sym (append-nil (map comparisonText cs));
       valid = rw (← e) v;
-      distinct = rw (← e) n;
+      few = rw (← e) l;
     }
-comparisons-read correlation cs (field ∷ fields) ds v n h =
+comparisons-read correlation cs (field ∷ fields) ds v l h =
     let w = through (comparisonField correlation field) _ ds h in
     let c : Comparison = w .value in
-    let u = required (not (tested (c .reading) cs)) 5 _ ds (w .rest) in
+    let u = required (ltb (length cs) 4) 17 _ ds (w .rest) in
     let r = comparison-read correlation field c (w .first) in
-    let m = distinct-more cs c n (comparison-reading correlation field c (w .first)) (not-true (tested (c .reading) cs) (u .0)) in
+    let m : length (cs ++ (c ∷ [])) ≤ 4 = omega (arith, ltb-true (length cs) 4 (u .0), length-append cs (c ∷ [])) in
     let q = comparisons-read correlation (cs ++ (c ∷ [])) fields ds (all-append (validComparison correlation) cs (c ∷ []) v (both (r .valid) refl)) m (u .1) in
-    record { text = q .text ∙ map-more cs c field fields (r .text); valid = q .valid; distinct = q .distinct }
+    record { text = q .text ∙ map-more cs c field fields (r .text); valid = q .valid; few = q .few }
 
 pub record ConditionRead (correlation : Bool) (field : List ℕ) (c : Condition) : Type 0 where
   pub text : conditionText c ≡ field
@@ -175,17 +160,16 @@ some-counted (c ∷ cs) field e = ne-eqb (suc (length cs)) 0 (λ z. omega arith)
 list-read : (correlation : Bool) (cs : List Comparison) (field : List ℕ) → dash field ≡ false → ComparisonsRead correlation [] (split comma field) cs → ConditionRead correlation field (conditionOf cs)
 unfolding conditionText validCondition canonicalCondition
 list-read correlation cs field p w =
-    let few = at-most-four cs (w .distinct) in
-    let same = comparisons-slots cs few in
+    let same = comparisons-slots cs (w .few) in
     record {
       text = ap comparisonsText same ∙ list-text cs field (w .text);
-      valid = both₃ (few-counted cs few) (rw same (w .valid)) (rw same (w .distinct .once));
+      valid = both (few-counted cs (w .few)) (rw same (w .valid));
       is-canonical = ap conditionOf same;
       empty = some-counted cs field (w .text) ∙ sym p;
     }
 
 none-read : (correlation : Bool) (field : List ℕ) → dash field ≡ true → ConditionRead correlation field noCondition
-unfolding conditionText comparisonsText validCondition canonicalCondition noCondition comparisonsOf conditionOf all noneTwice
+unfolding conditionText comparisonsText validCondition canonicalCondition noCondition comparisonsOf conditionOf all
 none-read correlation field p = record { text = dash-text field p; valid = refl; is-canonical = refl; empty = sym p }
 
 pub condition-read : (correlation : Bool) (field : List ℕ) (c : Condition) → conditionField correlation field ≡ accepted c → ConditionRead correlation field c
@@ -196,4 +180,4 @@ condition-read correlation field c h = go (dash field) refl h
     go true p q = rw (← of-of q) (none-read correlation field p)
     go false p q =
         let w = through (comparisonsAfter correlation [] (split comma field)) (λ cs. accepted (conditionOf cs)) c q in
-        rw (← of-of (w .rest)) (list-read correlation (w .value) field p (comparisons-read correlation [] (split comma field) (w .value) refl distinct-none (w .first)))
+        rw (← of-of (w .rest)) (list-read correlation (w .value) field p (comparisons-read correlation [] (split comma field) (w .value) refl (omega arith) (w .first)))

@@ -13,8 +13,8 @@ use Rattle.declare.specs.declared.Operand.the-variants.{Exact}
 use Rattle.declare.specs.Lists.{all}
 use Rattle.declare.specs.Conditions.{comparisonsOf}
 use Rattle.declare.specs.Events.{latest, inRange}
-use Rattle.declare.specs.Rules.{isReading, noneTwice, validReference, validComparison, validCondition, validEnd, validRule}
-use Rattle.declare.proofs.Booleans.{and₂, and₃}
+use Rattle.declare.specs.Rules.{isReading, validReference, validComparison, validCondition, validEnd, validRule}
+use Rattle.declare.proofs.Booleans.{and-right, and₂}
 use Rattle.declare.proofs.Satisfiability.{one-of-four}
 use Rattle.line.specs.Fields.{isByte}
 use Rattle.line.specs.Values.{readingText}
@@ -91,8 +91,7 @@ list-within correlation (c ∷ cs) l h = joined-within comma refl (comparisons-w
 condition-within : (correlation : Bool) (c : Condition) → validCondition correlation c ≡ true → Within (conditionMost correlation) (conditionText c)
 unfolding conditionText validCondition
 condition-within correlation c h =
-    let p : (leb (c .count) 4 ≡ true) × (all (validComparison correlation) (comparisonsOf c) ≡ true) × (noneTwice (comparisonsOf c) ≡ true) = and₃ h in
-    list-within correlation (comparisonsOf c) (comparisons-few c) (p .1)
+    list-within correlation (comparisonsOf c) (comparisons-few c) (and-right (leb (c .count) 4) _ h)
 
 -- ---- a line, and a text
 

@@ -8,7 +8,6 @@ use Prim.Native.String.{String}
 use lib.IntN.{ℤ, pos, negsuc}
 use lib.ListN.{length, replicate}
 use Rattle.declare.specs.Conditions.{comparisonsOf}
-use Rattle.declare.specs.Lists.{any}
 use Rattle.declare.specs.Overall.{isOverall, overallOf}
 use Rattle.declare.specs.Rules.{fitsTemplate, noComparison, noCondition, noRule}
 use Rattle.number.specs.Number.{digit, digits, none, zeroAlone, positive, negative, naturalForm, integerForm, dash, valueFrom, valueOf, integerValue, inNaturalRange, naturalOf, inSignedRange, integerOf}
@@ -20,7 +19,7 @@ use Rattle.line.specs.Values.{faultNumber, naturalAnswer, numberField}
 use Rattle.line.specs.Texts.{Records, All, Stop, lineAfter, continued, linesOf, textOf, writtenLine, writtenText}
 use Rattle.rule_text.specs.Types.{Operator, Equal, NotEqual, Less, AtMost, Greater, AtLeast, Reference, Constant, Activation, Comparison, Condition, End, Never, At, Rule}
 use Rattle.rule_text.specs.Comparisons.{readingDigit, digitOf, operatorOf, kNumber, kAnswer, kField, constantField, activationField, referenceField, comparisonField}
-use Rattle.rule_text.specs.Conditions.{tested, comparisonsAfter, conditionOf, comparisonsField, conditionField}
+use Rattle.rule_text.specs.Conditions.{comparisonsAfter, conditionOf, comparisonsField, conditionField}
 use Rattle.rule_text.specs.Rules.{endField, isAbove, checkedRule, ruleOf, inTable, ruleAfter, rulesTextOf}
 use Rattle.rule_text.specs.Written.{referenceText, comparisonText, comparisonsText, conditionText, endText, ruleFields, rulesText}
 use Rattle.declare.specs.Limits.{mostRules}
@@ -111,19 +110,24 @@ conditions =
     ∷ "1=5,,2=5" gives refused 4
     ∷ "1=5,-" gives refused 4
     ∷ "-,1=5" gives refused 4
-    ∷ "1=5,1=6" gives refused 5
-    ∷ "1=5,2=6,1=7" gives refused 5
-    -- comparison by comparison 4, 3, 5
+    -- on any readings
+    ∷ "1>5,1<7" gives accepted (record { count = 2; first = compares 1 Greater (Constant (pos 5)); second = compares 1 Less (Constant (pos 7)); third = equals 0 0; fourth = equals 0 0 })
+    ∷ "2=1,2=1,3=2,2=1" gives accepted (record { count = 4; first = equals 2 1; second = equals 2 1; third = equals 3 2; fourth = equals 2 1 })
+    -- comparison by comparison 4, 3
     ∷ "1=5,1=x" gives refused 4
     ∷ "1=5,1=99999999999" gives refused 3
-    ∷ "1=5,1=6,zz" gives refused 5
     ∷ "1=x,2=99999999999" gives refused 4
     ∷ "1=99999999999,x" gives refused 3
-    -- a fifth: of the form and in range it can only be of a reading tested before
-    ∷ "1=1,2=1,3=1,4=1,1=1" gives refused 5
-    ∷ "1=1,2=1,3=1,4=1,4=1,zz" gives refused 5
+    -- and 17: a fifth, of the form and in range, whatever follows it
+    ∷ "1=1,2=1,3=1,4=1,1=1" gives refused 17
+    ∷ "1=1,1=1,1=1,1=1,1=1" gives refused 17
+    ∷ "1=1,2=1,3=1,4=1,4=1,zz" gives refused 17
+    ∷ "1=1,2=1,3=1,4=1,4=1,1=99999999999" gives refused 17
     ∷ "1=1,2=1,3=1,4=1,5=1" gives refused 4
+    ∷ "1=1,2=1,3=1,4=1," gives refused 4
     ∷ "1=1,2=1,3=1,4=1,2=99999999999" gives refused 3
+    ∷ "1=1,2=x,3=1,4=1,1=1" gives refused 4
+    ∷ "1=1,2=1,3=1,4=99999999999,1=1" gives refused 3
     ∷ []
 
 -- ---- texts
@@ -215,8 +219,10 @@ refusedTexts =
     -- `@` in an activation condition
     ∷ "1\t1\t1\t0\t-\t1=@1:0\t-\n" gives Stop 4 1
     ∷ "1\t1\t1\t0\t-\t1=@1:99999999999\t-\n" gives Stop 4 1
-    ∷ "1\t1\t1\t0\t-\t1=5,1=6\t-\n" gives Stop 5 1
-    ∷ "1\t1\t1\t0\t-\t-\t1=5,1=@1:0\n" gives Stop 5 1
+    -- a fifth comparison, in either condition
+    ∷ "1\t1\t1\t0\t-\t1=1,1=2,1=3,1=4,1=5\t-\n" gives Stop 17 1
+    ∷ "1\t1\t1\t0\t-\t-\t1=1,1=2,1=3,1=4,1=@1:0\n" gives Stop 17 1
+    ∷ "1\t1\t1\t0\t-\t1=1\t1=1\n1\t1\t1\t0\t-\t-\t1=1,2=1,3=1,4=1,1=1\n" gives Stop 17 2
     ∷ "1\t1\t1\t5\t5\t-\t-\n" gives Stop 6 1
     ∷ "1\t1\t1\t0\t-\t-\t-\n1\t1\t1\t6\t5\t-\t-\n" gives Stop 6 2
     -- activities that both count and are equal; a correlation, `@` in it or not
@@ -249,20 +255,20 @@ ordered =
     ∷ "1\t1\t1\t0\tx\tzz\t-\n" gives Stop 2 1
     ∷ "1\t1\t1\t0\t0\tzz\t-\n" gives Stop 3 1
     -- the activation condition before the correlation
-    ∷ "1\t1\t1\t0\t-\t1=1,1=2\tzz\n" gives Stop 5 1
+    ∷ "1\t1\t1\t0\t-\t1=1,1=2,1=3,1=4,1=5\tzz\n" gives Stop 17 1
     ∷ "1\t1\t1\t0\t-\tzz\t1=99999999999\n" gives Stop 4 1
     ∷ "1\t1\t1\t0\t-\t1=99999999999\tzz\n" gives Stop 3 1
     -- all fields before 6, and b's 3 among them
     ∷ "1\t1\t1\t5\t5\tzz\t-\n" gives Stop 4 1
     ∷ "1\t1\t1\t5\t5\t-\tzz\n" gives Stop 4 1
     ∷ "1\t1\t1\t5\t5\t-\t1=99999999999\n" gives Stop 3 1
-    ∷ "1\t1\t1\t5\t5\t-\t1=1,1=2\n" gives Stop 5 1
+    ∷ "1\t1\t1\t5\t5\t-\t1=1,1=2,1=3,1=4,1=5\n" gives Stop 17 1
     ∷ "1\t1\t1\t5\t0\t-\t-\n" gives Stop 3 1
     -- all fields before 16, and 6 too
     ∷ "15\t1\t1\t0\t-\tzz\t-\n" gives Stop 4 1
     ∷ "13\t1\t1\t0\t-\t-\tzz\n" gives Stop 4 1
     ∷ "13\t1\t1\t0\t-\t-\t1=99999999999\n" gives Stop 3 1
-    ∷ "13\t1\t1\t0\t-\t-\t1=1,1=2\n" gives Stop 5 1
+    ∷ "13\t1\t1\t0\t-\t-\t1=1,1=2,1=3,1=4,1=5\n" gives Stop 17 1
     ∷ "15\t1\t1\t5\t5\t-\t-\n" gives Stop 6 1
     ∷ "13\t1\t1\t5\t5\t-\t1=5\n" gives Stop 6 1
     -- the first line that is refused
@@ -279,7 +285,7 @@ full =
     ∷ "x\t1\t1\t0\t-\t-\t-\n" gives Stop 2 17
     ∷ "17\t1\t1\t0\t-\t-\t-\n" gives Stop 3 17
     ∷ "1\t1\t1\t0\t-\tzz\t-\n" gives Stop 4 17
-    ∷ "1\t1\t1\t0\t-\t1=1,1=2\t-\n" gives Stop 5 17
+    ∷ "1\t1\t1\t0\t-\t1=1,1=2,1=3,1=4,1=5\t-\n" gives Stop 17 17
     ∷ "1\t1\t1\t5\t5\t-\t-\n" gives Stop 6 17
     ∷ "15\t1\t1\t0\t-\t-\t-\n" gives Stop 16 17
     ∷ "1\t1\t1\t0\t-\t-\t-" gives Stop 12 17
@@ -301,7 +307,7 @@ pub record Vectors : Type 0 where
   pub of-slots : padded mostRules noRule listing ≡ listing ++ replicate 14 noRule
 
 pub vectors : Vectors
-unfolding any comparisonsOf noComparison noCondition noRule digit digits none zeroAlone positive negative naturalForm integerForm dash valueFrom valueOf integerValue inNaturalRange naturalOf inSignedRange integerOf digitsIn digitsOf integerText onto split eachAfter joined _>>=_ _>>_ require faultNumber naturalAnswer numberField lineAfter continued linesOf textOf writtenLine writtenText readingDigit digitOf operatorOf kNumber kAnswer kField constantField activationField referenceField comparisonField tested comparisonsAfter conditionOf comparisonsField conditionField isOverall overallOf fitsTemplate endField isAbove checkedRule ruleOf inTable ruleAfter rulesTextOf referenceText comparisonText comparisonsText conditionText endText ruleFields rulesText padded
+unfolding comparisonsOf noComparison noCondition noRule digit digits none zeroAlone positive negative naturalForm integerForm dash valueFrom valueOf integerValue inNaturalRange naturalOf inSignedRange integerOf digitsIn digitsOf integerText onto split eachAfter joined _>>=_ _>>_ require faultNumber naturalAnswer numberField lineAfter continued linesOf textOf writtenLine writtenText readingDigit digitOf operatorOf kNumber kAnswer kField constantField activationField referenceField comparisonField comparisonsAfter conditionOf comparisonsField conditionField isOverall overallOf fitsTemplate endField isAbove checkedRule ruleOf inTable ruleAfter rulesTextOf referenceText comparisonText comparisonsText conditionText endText ruleFields rulesText padded
 vectors =
     record {
       of-constants = refl;

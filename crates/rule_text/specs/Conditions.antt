@@ -1,10 +1,10 @@
 -- Conditions. "Comparisons are parted by commas"; "`-` alone means .. empty condition".
-use mathlib.Core.Bool.{Bool, not, cond}
+use mathlib.Core.Bool.{Bool, cond}
 use mathlib.Core.List.{List, [], _∷_, _++_}
 use Prim.Native.Nat.{ℕ}
-use lib.Dec.{eqb}
+use lib.Dec.{ltb}
 use lib.ListN.{length, getD}
-use Rattle.declare.specs.Lists.{any}
+use Rattle.declare.specs.Limits.{mostComparisons}
 use Rattle.declare.specs.Rules.{noComparison, noCondition}
 use Rattle.number.specs.Number.{dash}
 use Rattle.line.specs.Fields.{split}
@@ -16,16 +16,12 @@ use Rattle.rule_text.specs.Comparisons.{comparisonField}
 abbrev pub comma : ℕ
 comma = 44
 
--- some comparison is of the reading
-unfoldable pub tested : ℕ → List Comparison → Bool
-tested reading cs = any (λ c. eqb (c .reading) reading) cs
-
--- "in a condition comparison by comparison" 4, 3, 5; "reading compared a second time" is 5
+-- "in a condition comparison by comparison" 4, 3, 17; "a fifth comparison in one condition" is 17
 unfoldable pub comparisonsAfter : Bool → List Comparison → List (List ℕ) → Answer (List Comparison)
 comparisonsAfter correlation above [] = accepted above
 comparisonsAfter correlation above (field ∷ fields) = do
   c ← comparisonField correlation field
-  require (not (tested (c .reading) above)) 5
+  require (ltb (length above) mostComparisons) 17
   comparisonsAfter correlation (above ++ (c ∷ [])) fields
 
 -- "A rule keeps its comparisons in text order": the first four of cs; what stands in the other

@@ -1,11 +1,11 @@
-// Conditions: comparisons parted by commas, no reading twice.
+// Conditions: up to four comparisons, parted by commas.
 ghost use mathlib.Core.Path.{_≡_};
 ghost use mathlib.Core.List.{[], _∷_, _++_};
 ghost use Prim.Native.Nat.{_<_};
 ghost use Rattle.declare.specs.Limits.{mostComparisons};
 ghost use Rattle.declare.specs.Conditions.{comparisonsOf};
 ghost use Rattle.line.specs.Fields.{indexOf, before};
-ghost use Rattle.rule_text.specs.Conditions.{tested, conditionOf, comparisonsField, conditionField};
+ghost use Rattle.rule_text.specs.Conditions.{conditionOf, comparisonsField, conditionField};
 ghost use Rattle.rule_text.specs.Reads.{conditionRead};
 use crate::comparison::ComparisonAnswer;
 use crate::comparison::comparison;
@@ -15,17 +15,6 @@ use declare::Refusal;
 use declare::slots::no_comparison;
 use declare::slots::no_condition;
 use line::is_dash;
-
-// Whether a comparison is of the reading.
-fn tests(condition: Condition, reading: u8) -> bool
-    ensures { λ r. ⌜ r ≡ tested reading (comparisonsOf condition) ⌝ }
-{
-    let count = condition.count;
-    ((0 < count) & (condition.first.reading == reading))
-        | ((1 < count) & (condition.second.reading == reading))
-        | ((2 < count) & (condition.third.reading == reading))
-        | ((3 < count) & (condition.fourth.reading == reading))
-}
 
 fn slots(
     count: u8,
@@ -68,7 +57,7 @@ pub enum ConditionAnswer {
     NoComparisons(Refusal),
 }
 
-// A condition that is not `-`. Of four readings none is tested twice, so four slots suffice.
+// A condition that is not `-`. A fifth comparison is read, and then refused.
 fn comparisons(field: &[u8], correlation: bool) -> ConditionAnswer
     ensures { λ r. ⌜ conditionRead r ≡ comparisonsField correlation (now (field .entry)) ⌝ }
 {
@@ -78,8 +67,8 @@ fn comparisons(field: &[u8], correlation: bool) -> ConditionAnswer
         match comparison(&field[at..], correlation) {
             ComparisonAnswer::NotCompared(cause) => return ConditionAnswer::NoComparisons(cause),
             ComparisonAnswer::Compared(next, length) => {
-                if tests(condition, next.reading) {
-                    return ConditionAnswer::NoComparisons(Refusal::ReadingTwice);
+                if 4 <= condition.count {
+                    return ConditionAnswer::NoComparisons(Refusal::TooManyComparisons);
                 }
                 condition = with(condition, next);
                 at = at + length + 1;

@@ -4,7 +4,7 @@ use Rattle.declare.specs.Lists.{all, any, firstUpTo, lastUpTo, firstPast, neare
 use Rattle.declare.specs.Conditions.{comparisonsOf, testsOf, met}
 use Rattle.declare.specs.Events.{inRange, isActivity, readingsInRange, wellFormed, nonFallingFrom, nonFalling, lastFrom, lastTime, eventAt, firstTime, emptySlot}
 use Rattle.declare.specs.Overall.{isOverall, overallOf}
-use Rattle.declare.specs.Rules.{isTemplate, noneTwice, noRule, ruleAt, isOverallRule, fitsTemplate, validCondition, validEnd, validWindow, validHead, validRule, rulesOf, validTable}
+use Rattle.declare.specs.Rules.{isTemplate, noRule, ruleAt, isOverallRule, fitsTemplate, validCondition, validEnd, validWindow, validHead, validRule, rulesOf, validTable}
 use Rattle.declare.specs.Suits.{occurs, isActivation, activationAt, beforeEnd, within, correlates, suits}
 use Rattle.declare.specs.Templates.{templates, templateOf, inReach}
 use Rattle.declare.specs.Verdicts.{occursAt, fitsAt, eligible, target, decided, seen, formulaOf, decision, verdict}
@@ -24,7 +24,7 @@ use Rattle.run.specs.Queries.{isPosition}
 use Rattle.run.specs.Cases.{codes, records, starts, zeros, judgements, closings, finished, numbers, positions, counts, checkedTotals, keptTotals, Checked}
 
 pub checked : Checked
-unfolding codes records starts zeros judgements closings finished numbers positions counts checkedTotals keptTotals idleRun countedTotals validTotals firstTime emptySlot isOverall overallOf isOverallRule fitsTemplate occurs occursAt fitsAt seen formulaOf decision canOccur isSettled overallIn zeroIn withZero overallCell changedOverall judgedOverall eventsJudged validOverall closedOverall isPosition all any firstUpTo lastUpTo firstPast nearest allBelow countBelow mapFrom comparisonsOf testsOf met inRange isActivity readingsInRange wellFormed nonFallingFrom nonFalling lastFrom lastTime eventAt isTemplate noneTwice noRule validCondition validEnd validWindow validHead validRule rulesOf validTable isActivation activationAt beforeEnd within correlates suits templates templateOf inReach eligible target decided horizon candidates meets someMeets satisfiable soonest hasRoom canCome undecided standing carried closing closed standingIn inUse judged judgedAt changedCell judgedCells eventsOf ruleAt validEvents validAt validRow validStandings validRun afterCall newRun startOf emptyTable started judgedRun changed closedAt closedCells closedRun positionsOf totalsBy standingFrom padded tableOf _>>_ require verdict finishedRun
+unfolding codes records starts zeros judgements closings finished numbers positions counts checkedTotals keptTotals idleRun countedTotals validTotals firstTime emptySlot isOverall overallOf isOverallRule fitsTemplate occurs occursAt fitsAt seen formulaOf decision canOccur isSettled overallIn zeroIn withZero overallCell changedOverall judgedOverall eventsJudged validOverall closedOverall isPosition all any firstUpTo lastUpTo firstPast nearest allBelow countBelow mapFrom comparisonsOf testsOf met inRange isActivity readingsInRange wellFormed nonFallingFrom nonFalling lastFrom lastTime eventAt isTemplate noRule validCondition validEnd validWindow validHead validRule rulesOf validTable isActivation activationAt beforeEnd within correlates suits templates templateOf inReach eligible target decided horizon candidates meets someMeets satisfiable soonest hasRoom canCome undecided standing carried closing closed standingIn inUse judged judgedAt changedCell judgedCells eventsOf ruleAt validEvents validAt validRow validStandings validRun afterCall newRun startOf emptyTable started judgedRun changed closedAt closedCells closedRun positionsOf totalsBy standingFrom padded tableOf _>>_ require verdict finishedRun
 checked =
     record {
       of-codes = refl;

@@ -1,25 +1,23 @@
 -- `condition::comparisons`: at each turn the whole field gives what its comparisons from `at` on
--- give after those held. Those held are of different readings, so that there is a slot for one
--- more.
+-- give after those held. Those held are in order, so that their number is the count.
 use mathlib.Core.Path.{_≡_, refl, sym, _∙_, ap}
-use mathlib.Core.Bool.{Bool, true, false}
+use mathlib.Core.Bool.{Bool}
 use mathlib.Core.List.{List, [], _∷_, _++_}
 use Prim.Native.Nat.{ℕ, _+_, _-_, _≤_, _<_}
 use native.Mathlib.Omega.{arith}
 use lib.ListN.{length, drop, length-append, length-drop}
 use Rattle.declare.specs.Conditions.{comparisonsOf}
 use Rattle.declare.specs.Refusals.{numberOf}
-use Rattle.declare.specs.Rules.{isReading, noCondition}
+use Rattle.declare.specs.Rules.{noCondition}
 use Rattle.line.specs.Fields.{indexOf, before, split}
 use Rattle.declare.specs.Answers.{accepted, _>>=_}
 use Rattle.line.proofs.Fields.{part-rest}
 use Rattle.rule_text.specs.Types.{Comparison, Condition, ComparisonAnswer, Compared}
 use Rattle.rule_text.specs.Comparisons.{comparisonField}
-use Rattle.rule_text.specs.Conditions.{comma, tested, comparisonsAfter, conditionOf, comparisonsField}
+use Rattle.rule_text.specs.Conditions.{comma, comparisonsAfter, conditionOf, comparisonsField}
 use Rattle.rule_text.specs.Reads.{upToComma, comparisonRead, conditionRead}
 use Rattle.rule_text.proofs.Comparisons.{measured, length-le, comma-refused}
-use Rattle.rule_text.proofs.ComparisonTexts.{comparison-reading}
-use Rattle.rule_text.proofs.Conditions.{Distinct, distinct-none, distinct-more, room, comparisons-slots, fieldsAt, fields-start, fields-end, fields-next, after-refused, after-twice, after-next}
+use Rattle.rule_text.proofs.Conditions.{comparisons-slots, fieldsAt, fields-start, fields-end, fields-next, after-refused, after-full, after-next}
 use borrow.Author.Needs.{needs}
 use Rattle.rule_text.proofs.condition.comparisons.Statement.{statement}
 use Rattle.rule_text.proofs.condition.comparisons.Tie as tie
@@ -28,7 +26,6 @@ abbrev Inv-loop : tie.InvT-loop
 Inv-loop field correlation condition₀ at₀ condition at =
     (at ≤ length field + 1)
     × (condition ≡ conditionOf (comparisonsOf condition))
-    × Distinct (comparisonsOf condition)
     × (comparisonsAfter correlation [] (split comma field) ≡ comparisonsAfter correlation (comparisonsOf condition) (fieldsAt field at))
 
 abbrev μ-loop : tie.MeasureT-loop
@@ -61,7 +58,7 @@ comparison-is c x p =
 -- the field, by the comparison in hand
 by-comparison : (c : Read) → comparisonsAfter (correlation-of c) [] (split comma (field-of c)) ≡ comparisonsAfter (correlation-of c) (held c) (before comma (left c) ∷ fieldsAt (field-of c) (at-of c + indexOf comma (left c) + 1))
 by-comparison c =
-    c .before .before .before .loop .inv .3
+    c .before .before .before .loop .inv .2
     ∙ ap (comparisonsAfter (correlation-of c) (held c)) (fields-next (field-of c) (at-of c) (c .before .before .loop-test .taken))
 
 count-is : (c : Read) → c .before .before .before .loop .condition .count ≡ length (held c)
@@ -84,23 +81,15 @@ module _ (c : Read) (d : Comparison) (n : ℕ) (h : c .comparison .result ≡ Co
   within =
       omega (arith, length-le (comparisonField (correlation-of c)) (left c) (record { value = d; length = n }) whole, length-drop (at-of c) (field-of c), c .before .before .loop-test .taken)
 
-  reading-is : isReading (d .reading) ≡ true
-  reading-is = comparison-reading (correlation-of c) (before comma (left c)) d holds
-
-  -- of a reading that no comparison held is of
-  module _ (t : tested (d .reading) (held c) ≡ false) where
-    fits : length (held c) < 4
-    fits = room (held c) d (c .before .before .before .loop .inv .2) reading-is t
-
-    held-more : comparisonsOf (conditionOf (held c ++ (d ∷ []))) ≡ held c ++ (d ∷ [])
-    held-more = comparisons-slots (held c ++ (d ∷ [])) (rw (length-append (held c) (d ∷ [])) (omega (arith, fits)))
+  held-more : length (held c) < 4 → comparisonsOf (conditionOf (held c ++ (d ∷ []))) ≡ held c ++ (d ∷ [])
+  held-more l = comparisons-slots (held c ++ (d ∷ [])) (rw (length-append (held c) (d ∷ [])) (omega arith))
 
 no-condition-requires : tie.Need-no-condition-requires Inv-loop μ-loop
 no-condition-requires c κs = search needs
 
 loop-holds : tie.Need-loop-holds Inv-loop μ-loop
 unfolding noCondition conditionOf comparisonsOf
-loop-holds c = rw (c .no-condition .ensures) (omega arith, refl, distinct-none, ap (comparisonsAfter _ []) (sym (fields-start _)))
+loop-holds c = rw (c .no-condition .ensures) (omega arith, refl, ap (comparisonsAfter _ []) (sym (fields-start _)))
 
 sub-comparison : tie.Need-sub-comparison Inv-loop μ-loop
 sub-comparison c = search needs
@@ -127,21 +116,15 @@ returns c =
 enum-known-next : tie.Need-enum-known-next Inv-loop μ-loop
 enum-known-next c = search needs
 
-tests-requires : tie.Need-tests-requires Inv-loop μ-loop
-tests-requires c κs = search needs
-
 returns-2 : tie.Need-returns-2 Inv-loop μ-loop
 unfolding comparisonsField conditionRead _>>=_ numberOf
 returns-2 c =
     let k = c .before .before .before .before .before in
     let a = c .before .before .before .next .given in
-    sym (rw (by-comparison k ∙ after-twice (correlation-of k) (held k) (before comma (left k)) _ _ (holds k _ _ (a .1)) (sym (c .before .tests .ensures) ∙ c .if1 .taken)))
+    sym (rw (by-comparison k ∙ after-full (correlation-of k) (held k) (before comma (left k)) _ _ (holds k _ _ (a .1)) (omega (arith, count-is k, c .if1 .taken))))
 
 with-requires : tie.Need-with-requires Inv-loop μ-loop
-with-requires c κs =
-    let k = c .before .before .before .before .before in
-    let a = c .before .before .before .next .given in
-    omega (arith, count-is k, fits k _ _ (a .1) (sym (c .before .tests .ensures) ∙ c .if1 .left))
+with-requires c κs = omega (arith, c .if1 .left)
 
 add-at : tie.Need-add-at Inv-loop μ-loop
 add-at c =
@@ -163,12 +146,11 @@ loop-again c =
     let k = c .before .before .before .before .before .before in
     let a = c .before .before .before .before .next .given in
     let d = a .0 .0 in
-    let t : tested (d .reading) (held k) ≡ false = sym (c .before .before .tests .ensures) ∙ c .before .if1 .left in
-    let e : comparisonsOf (c .with .result) ≡ held k ++ (d ∷ []) = ap comparisonsOf (c .with .ensures) ∙ held-more k d _ (a .1) t in (
+    let l : length (held k) < 4 = omega (arith, count-is k, c .before .if1 .left) in
+    let e : comparisonsOf (c .with .result) ≡ held k ++ (d ∷ []) = ap comparisonsOf (c .with .ensures) ∙ held-more k d _ (a .1) l in (
       omega (arith, within k _ _ (a .1)),
       c .with .ensures ∙ ap conditionOf (sym e),
-      rw e (distinct-more (held k) d (k .before .before .before .loop .inv .2) (reading-is k d _ (a .1)) t),
-      by-comparison k ∙ after-next (correlation-of k) (held k) (before comma (left k)) _ d (holds k d _ (a .1)) t ∙ rw (length-is k d _ (a .1), e),
+      by-comparison k ∙ after-next (correlation-of k) (held k) (before comma (left k)) _ d (holds k d _ (a .1)) l ∙ rw (length-is k d _ (a .1), e),
     )
 
 returns-3 : tie.Need-returns-3 Inv-loop μ-loop
@@ -176,7 +158,7 @@ unfolding comparisonsField comparisonsAfter conditionRead _>>=_
 returns-3 c =
     let o = c .before .loop in
     let a = c .before .before .before .before .args in
-    let e : comparisonsAfter (a .correlation) [] (split comma (a .field .now)) ≡ accepted (comparisonsOf (o .condition)) = o .inv .3 ∙ rw (fields-end (a .field .now) (o .at) (c .loop-test .left)) in
+    let e : comparisonsAfter (a .correlation) [] (split comma (a .field .now)) ≡ accepted (comparisonsOf (o .condition)) = o .inv .2 ∙ rw (fields-end (a .field .now) (o .at) (c .loop-test .left)) in
     ap accepted (o .inv .1) ∙ sym (rw e)
 
 pub comparisons-spec : {M : Type 1} → statement M
@@ -194,7 +176,6 @@ comparisons-spec =
     enum-known-cause
     returns
     enum-known-next
-    tests-requires
     returns-2
     with-requires
     add-at
