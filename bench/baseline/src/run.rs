@@ -19,12 +19,7 @@ fn valid_comparison(correlation: bool, c: &Comparison) -> bool {
 }
 
 fn valid_condition(correlation: bool, c: &Condition) -> bool {
-    if c.count > 4 {
-        return false;
-    }
-    let used = c.used();
-    used.iter().all(|x| valid_comparison(correlation, x))
-        && (1..used.len()).all(|i| used[..i].iter().all(|x| x.reading != used[i].reading))
+    c.count <= 4 && c.used().iter().all(|x| valid_comparison(correlation, x))
 }
 
 fn valid_rule(r: &Rule) -> bool {

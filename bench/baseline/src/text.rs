@@ -196,8 +196,8 @@ fn condition(f: &[u8], correlation: bool) -> Result<Condition, Cause> {
         let operator = operator(byte(i + 1))?;
         i += 2;
         let reference = reference(f, &mut i, correlation)?;
-        if c.used().iter().any(|x| x.reading == reading) {
-            return Err(5);
+        if c.count == 4 {
+            return Err(17);
         }
         c.comparisons[c.count as usize] = Comparison {
             reading,

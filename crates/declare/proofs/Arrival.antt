@@ -13,6 +13,7 @@ use lib.Dec.{leb, eqb}
 use lib.ListN.{length, getD, length-append}
 use Rattle.declare.specs.Types.{Event, Comparison, Condition, End, Never, At, Window, Rule}
 use Rattle.declare.specs.Lists.{all}
+use Rattle.declare.specs.Limits.{mostComparisons}
 use Rattle.declare.specs.Comparisons.{testOf, passes}
 use Rattle.declare.specs.Conditions.{comparisonsOf, testsOf, met}
 use Rattle.declare.specs.Events.{latest, isActivity, readingsInRange, wellFormed, nonFallingFrom, nonFalling, lastTime, noEvent, eventAt}
@@ -22,7 +23,7 @@ use Rattle.declare.specs.Templates.{inReach, reachOf}
 use Rattle.declare.specs.Verdicts.{eligible}
 use Rattle.declare.specs.Continuations.{continuation}
 use Rattle.declare.specs.Reachability.{satisfiable, soonest, hasRoom, canCome}
-use Rattle.declare.proofs.Booleans.{and-left, and₂, and₃, and₄, both, both₃, all-at, all-map}
+use Rattle.declare.proofs.Booleans.{and-left, and-right, and₂, and₃, and₄, both, both₃, all-at, all-map}
 use Rattle.declare.proofs.Positions.{reach-next}
 use Rattle.declare.proofs.Satisfiability.{sound, complete, bringing, bringing-time, bringing-activity, bringing-in-range}
 use Rattle.declare.proofs.Zero.{eligible-event}
@@ -129,9 +130,7 @@ readings-named a correlation c h = and-left _ _ h
 
 pub valid-comparisons : (correlation : Bool) (c : Condition) → validCondition correlation c ≡ true → all (validComparison correlation) (comparisonsOf c) ≡ true
 unfolding validCondition
-valid-comparisons correlation c v =
-    let p : (leb (c .count) 4 ≡ true) × (all (validComparison correlation) (comparisonsOf c) ≡ true) = and₂ v in
-    p .1
+valid-comparisons correlation c v = and-right (leb (c .count) mostComparisons) _ v
 
 pub tests-named : (a : Event) (correlation : Bool) (c : Condition) → validCondition correlation c ≡ true → all (λ t. isReading (t .reading)) (testsOf a c) ≡ true
 unfolding testsOf

@@ -14,6 +14,7 @@ use Rattle.declare.specs.Lists.{all}
 use Rattle.declare.specs.Conditions.{comparisonsOf}
 use Rattle.declare.specs.Rules.{isReading, noCondition, validReference, validComparison, validCondition}
 use Rattle.declare.proofs.Booleans.{and-left, and-right, both, and₂, all-append}
+use Rattle.declare.proofs.Arrival.{valid-comparisons}
 use Rattle.number.specs.Number.{dash, none}
 use Rattle.number.specs.Written.{digitsOf, integerText}
 use Rattle.number.proofs.Written.{written-digits}
@@ -103,9 +104,9 @@ list-written correlation (c ∷ cs) v l =
     rw (not-dash c cs (p .0), split-joined comma (comparisonText c) (map comparisonText cs) (comparisons-lack comma (omega arith) refl (c ∷ cs)), after-written correlation [] (c ∷ cs) v l)
 
 pub condition-written : (correlation : Bool) (c : Condition) → validCondition correlation c ≡ true → conditionField correlation (conditionText c) ≡ accepted (canonicalCondition c)
-unfolding validCondition conditionText canonicalCondition
+unfolding conditionText canonicalCondition
 condition-written correlation c v =
-    list-written correlation (comparisonsOf c) (and-right (leb (c .count) 4) _ v) (comparisons-few c)
+    list-written correlation (comparisonsOf c) (valid-comparisons correlation c v) (comparisons-few c)
 
 -- ---- a condition that was read
 

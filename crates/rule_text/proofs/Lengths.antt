@@ -14,7 +14,8 @@ use Rattle.declare.specs.Lists.{all}
 use Rattle.declare.specs.Conditions.{comparisonsOf}
 use Rattle.declare.specs.Events.{latest, inRange}
 use Rattle.declare.specs.Rules.{isReading, validReference, validComparison, validCondition, validEnd, validRule}
-use Rattle.declare.proofs.Booleans.{and-right, and₂}
+use Rattle.declare.proofs.Booleans.{and₂}
+use Rattle.declare.proofs.Arrival.{valid-comparisons}
 use Rattle.declare.proofs.Satisfiability.{one-of-four}
 use Rattle.line.specs.Fields.{isByte}
 use Rattle.line.specs.Values.{readingText}
@@ -89,9 +90,9 @@ list-within correlation [] l h = within-most (omega arith) (within-more 45 refl 
 list-within correlation (c ∷ cs) l h = joined-within comma refl (comparisons-within correlation 4 (c ∷ cs) l h)
 
 condition-within : (correlation : Bool) (c : Condition) → validCondition correlation c ≡ true → Within (conditionMost correlation) (conditionText c)
-unfolding conditionText validCondition
+unfolding conditionText
 condition-within correlation c h =
-    list-within correlation (comparisonsOf c) (comparisons-few c) (and-right (leb (c .count) 4) _ h)
+    list-within correlation (comparisonsOf c) (comparisons-few c) (valid-comparisons correlation c h)
 
 -- ---- a line, and a text
 

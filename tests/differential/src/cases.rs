@@ -1,5 +1,6 @@
 //! The cases that are compared, each made from its seed alone.
 
+pub mod bands;
 pub mod causes;
 pub mod crowded;
 pub mod notebook;

@@ -31,6 +31,11 @@ pub struct Counts {
     pub cases: usize,
     /// Runs handed in that are refused with 11 for their totals alone.
     pub miscounted: usize,
+    /// Conditions of the valid tables handed in and of the rules texts accepted,
+    /// without the correlations of rules about the cycle.
+    pub conditions: usize,
+    /// Those in which a reading is compared more than once.
+    pub bands: usize,
     /// By the command's letter and the number answered.
     answers: BTreeMap<(char, u8), usize>,
     /// Dumps by their letter.
@@ -44,6 +49,8 @@ impl Counts {
     pub fn add(&mut self, case: &Case) {
         self.cases += 1;
         self.miscounted += case.miscounted;
+        self.conditions += case.conditions;
+        self.bands += case.bands;
         for step in &case.steps {
             if let Some(expected) = &step.expected {
                 self.add_step(&step.command, expected);
@@ -81,6 +88,8 @@ impl Counts {
     pub fn merge(&mut self, other: &Counts) {
         self.cases += other.cases;
         self.miscounted += other.miscounted;
+        self.conditions += other.conditions;
+        self.bands += other.bands;
         for (key, count) in &other.answers {
             *self.answers.entry(*key).or_default() += count;
         }
@@ -127,43 +136,52 @@ impl Counts {
     }
 }
 
+/// The calls by their letters.
+const CALLS: [(char, &str); 13] = [
+    ('s', "starts"),
+    ('e', "takes"),
+    ('x', "closes"),
+    ('g', "standings asked"),
+    ('o', "totals"),
+    ('b', "tallies"),
+    ('R', "rules texts"),
+    ('Y', "cycle texts"),
+    ('N', "pairs of texts"),
+    ('w', "writes of rules"),
+    ('W', "writes of events"),
+    ('v', "reports of runs"),
+    ('p', "prints of two texts"),
+];
+
+/// The dumps by their letters, but for that of the tally.
+const DUMPS: [(char, &str); 3] = [
+    ('d', "lists of standings"),
+    ('z', "lists of standings at position 0"),
+    ('D', "whole records"),
+];
+
 impl fmt::Display for Counts {
     fn fmt(&self, f: &mut fmt::Formatter<'_>) -> fmt::Result {
         write!(f, "{} cases", self.cases)?;
-        let names = [
-            ('s', "starts"),
-            ('e', "takes"),
-            ('x', "closes"),
-            ('g', "standings asked"),
-            ('o', "totals"),
-            ('b', "tallies"),
-            ('R', "rules texts"),
-            ('Y', "cycle texts"),
-            ('N', "pairs of texts"),
-            ('w', "writes of rules"),
-            ('W', "writes of events"),
-            ('v', "reports of runs"),
-            ('p', "prints of two texts"),
-        ];
-        for (letter, name) in names {
+        for (letter, name) in CALLS {
             let calls = self.calls(letter);
             if calls > 0 {
                 let accepted = self.answered(letter, 0);
                 write!(f, ", {calls} {name} ({accepted} accepted)")?;
             }
         }
-        let dumps = [
-            ('d', "lists of standings"),
-            ('z', "lists of standings at position 0"),
-            ('D', "whole records"),
-        ];
-        for (letter, name) in dumps {
+        for (letter, name) in DUMPS {
             if self.dumps(letter) > 0 {
                 write!(f, ", {} {name}", self.dumps(letter))?;
             }
         }
         if self.miscounted > 0 {
             write!(f, ", {} runs with wrong totals alone", self.miscounted)?;
+        }
+        if self.conditions > 0 {
+            let (all, bands) = (self.conditions, self.bands);
+            write!(f, ", {all} conditions")?;
+            write!(f, " ({bands} with a reading compared twice or more)")?;
         }
         Ok(())
     }

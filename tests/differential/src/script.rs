@@ -3,6 +3,7 @@
 use crate::answer::Answer;
 use crate::command::{buffer_of, cell_at_0, Command};
 use crate::expected::Expected;
+use evaluator::bands::{conditions, is_band};
 use evaluator::slots::{COMPARISON_SLOTS, RULE_SLOTS};
 use evaluator::{absorb, notebook_record, place, print_texts, read_cycle, read_rules, start};
 use evaluator::{write_cycle_of, write_report_of, write_rules_of};
@@ -25,6 +26,10 @@ pub struct Case {
     pub steps: Vec<Step>,
     /// How many of the runs in it are refused with 11 for their totals alone.
     pub miscounted: usize,
+    /// How many conditions the valid tables in it have.
+    pub conditions: usize,
+    /// How many of these compare a reading more than once.
+    pub bands: usize,
 }
 
 impl Case {
@@ -34,6 +39,16 @@ impl Case {
             seed,
             steps: Vec::new(),
             miscounted: 0,
+            conditions: 0,
+            bands: 0,
+        }
+    }
+
+    /// Counts the conditions of valid rules.
+    pub fn count_conditions(&mut self, rules: &[Rule]) {
+        for condition in rules.iter().flat_map(conditions) {
+            self.conditions += 1;
+            self.bands += usize::from(is_band(condition));
         }
     }
 
@@ -70,6 +85,7 @@ impl Case {
 
     /// Makes the table under construction this one, slot by slot.
     pub fn load_table(&mut self, table: &TableRecord) {
+        self.count_conditions(&table.rules().unwrap_or_default());
         self.send(Command::NewTable { count: table.count });
         for (slot, rule) in (0..).zip(&table.rules) {
             self.load_rule(slot, rule);

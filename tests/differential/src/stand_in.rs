@@ -9,6 +9,7 @@ use evaluator::{absorb, notebook_record, place, read_cycle, read_rules, start, v
 use evaluator::{Comparison, ConditionSlot, Event, Operator, Record, Reference, Refusal};
 use evaluator::{RuleSlot, Standing, TableRecord, Tally, Text, Totals};
 
+mod bands;
 mod numbers;
 mod overall;
 mod printed;
@@ -192,12 +193,31 @@ pub enum Mistake {
     WritesMiscounted,
     /// The report does not look at the stored totals.
     ReportsMiscounted,
+    /// Each comparison is judged by itself when it is asked whether a target can
+    /// still come.
+    JudgesEachAlone,
+    /// Of the comparisons of a reading the first one alone is looked at.
+    LooksAtTheFirstAlone,
+    /// Of the comparisons of a reading the last one alone is looked at.
+    LooksAtTheLastAlone,
+    /// A record is refused with 11 if a condition compares a reading again.
+    RefusesBandsInRecords,
+    /// A text is refused with 5 if a condition compares a reading again.
+    RefusesBandsInTexts,
+    /// The fifth comparison of a text and those after it are dropped.
+    DropsTheFifth,
+    /// 17 is looked for before the comparisons of a condition are read.
+    CountsCommasFirst,
+    /// 17 is looked for when all comparisons of a line are read.
+    CountsCommasLast,
+    /// 6 is looked for before 17.
+    FifthAfterTheWindow,
     /// The last four bytes of the answers are missing.
     EndsEarly,
 }
 
 impl Mistake {
-    pub const ALL: [Mistake; 86] = [
+    pub const ALL: [Mistake; 95] = [
         Mistake::NeverOpen,
         Mistake::JudgesAnew,
         Mistake::NamesTheEarliest,
@@ -283,6 +303,15 @@ impl Mistake {
         Mistake::AbsorbsMiscounted,
         Mistake::WritesMiscounted,
         Mistake::ReportsMiscounted,
+        Mistake::JudgesEachAlone,
+        Mistake::LooksAtTheFirstAlone,
+        Mistake::LooksAtTheLastAlone,
+        Mistake::RefusesBandsInRecords,
+        Mistake::RefusesBandsInTexts,
+        Mistake::DropsTheFifth,
+        Mistake::CountsCommasFirst,
+        Mistake::CountsCommasLast,
+        Mistake::FifthAfterTheWindow,
         Mistake::EndsEarly,
     ];
 }
@@ -508,7 +537,9 @@ impl State {
     }
 
     fn call(&mut self, read: &Read) {
-        let refuses = self.refuses_zeros() || self.refuses_unused_totals();
+        let refuses = self.refuses_zeros()
+            || self.refuses_unused_totals()
+            || self.refuses_bands(&self.run.table);
         if b"exgob".contains(&read.b(0)) && refuses {
             return self.answer(Some(Refusal::plain(11)), [0; 12]);
         }
@@ -539,7 +570,10 @@ impl State {
         if self.run.closed && self.has(Mistake::ClosedFirst) {
             return self.answer(Some(Refusal::plain(9)), [0; 12]);
         }
-        let (mut run, answer) = self.seen_by(b'e').take(event);
+        let mut seen = self.seen_by(b'e');
+        seen.table = self.judged_table(&self.run.table);
+        let (mut run, answer) = seen.take(event);
+        run.table = self.run.table.clone();
         let count = run.count as usize;
         if answer.is_err() && self.has(Mistake::KeepsRefused) && count < EVENT_SLOTS {
             run.events[count] = event;
@@ -547,6 +581,7 @@ impl State {
         match answer {
             Ok(()) => {
                 self.change_taken(&mut run);
+                self.change_awaited(&mut run);
                 self.change_targets(&mut run);
                 self.change_position_0(&mut run);
                 self.change_totals(b'e', &mut run);
@@ -633,6 +668,7 @@ impl State {
         let text = &self.misread(text)[..];
         if letter == b'R' {
             let read = self.mistaken_rules(text, read_rules(text));
+            let read = self.miscounted_rules(text, read);
             let answer = read.map(|mut rules| {
                 if self.has(Mistake::DropsComparisons) {
                     for rule in &mut rules {

@@ -47,7 +47,7 @@ fn random_runs() {
     assert_eq!(counts.numbers('o'), [0]);
     assert!(counts.standings() >= 1_000_000);
     assert_eq!(counts.dumps('D'), 2400);
-    every_template_is_shown(&counts, 500);
+    every_template_is_shown(&counts, 300);
 }
 
 #[test]

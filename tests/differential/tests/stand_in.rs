@@ -1,15 +1,15 @@
 //! The comparison itself: it agrees with the evaluator behind `probe`'s
 //! commands, and each kind of cases finds the mistakes that are put there.
 
-use differential::cases::{causes, crowded, notebook, overall, printed, records, reported};
-use differential::cases::{running, tally, texts, written};
+use differential::cases::{bands, causes, crowded, notebook, overall, printed, records};
+use differential::cases::{reported, running, tally, texts, written};
 use differential::compare::compare;
 use differential::script::Case;
 use differential::stand_in::{Mistake, StandIn};
 use std::collections::BTreeSet;
 
 fn running_cases() -> Vec<Case> {
-    (1..=30).map(running::case).collect()
+    (1..=60).map(running::case).collect()
 }
 
 fn crowded_cases() -> Vec<Case> {
@@ -18,6 +18,14 @@ fn crowded_cases() -> Vec<Case> {
 
 fn crowded_stale_cases() -> Vec<Case> {
     (1..=20).map(crowded::stale_case).collect()
+}
+
+fn bands_cases() -> Vec<Case> {
+    (1..=30).map(bands::case).collect()
+}
+
+fn bands_stale_cases() -> Vec<Case> {
+    (1..=30).map(bands::stale_case).collect()
 }
 
 fn overall_cases() -> Vec<Case> {
@@ -43,12 +51,19 @@ fn misfit_cases() -> Vec<Case> {
         .collect()
 }
 
+fn fifth_cases() -> Vec<Case> {
+    let texts = (1..).zip(texts::fifth_texts()).step_by(5);
+    texts
+        .map(|(number, text)| texts::rules_text_case(number, text))
+        .collect()
+}
+
 fn record_cases() -> Vec<Case> {
-    (1..=40).map(records::case).collect()
+    (1..=80).map(records::case).collect()
 }
 
 fn stale_cases() -> Vec<Case> {
-    (1..=20).map(records::stale_case).collect()
+    (1..=40).map(records::stale_case).collect()
 }
 
 fn cause_cases() -> Vec<Case> {
@@ -77,7 +92,7 @@ fn cycle_cases() -> Vec<Case> {
 }
 
 fn pair_cases() -> Vec<Case> {
-    (1..=60).map(texts::pair_case).collect()
+    (1..=120).map(texts::pair_case).collect()
 }
 
 fn long_number_cases() -> Vec<Case> {
@@ -85,7 +100,7 @@ fn long_number_cases() -> Vec<Case> {
 }
 
 fn notebook_cases() -> Vec<Case> {
-    (1..=20).map(notebook::case).collect()
+    (1..=40).map(notebook::case).collect()
 }
 
 fn tally_cases() -> Vec<Case> {
@@ -132,19 +147,18 @@ fn printed_cases() -> Vec<Case> {
     (1..=200).map(printed::case).collect()
 }
 
-#[test]
-fn the_evaluator_agrees_with_itself() {
-    let program = StandIn {
-        mistake: Mistake::None,
-    };
-    let cases = [
+fn all_cases() -> Vec<Case> {
+    [
         running_cases(),
         crowded_cases(),
         crowded_stale_cases(),
+        bands_cases(),
+        bands_stale_cases(),
         overall_cases(),
         overall_stale_cases(),
         overall_cause_cases(),
         misfit_cases(),
+        fifth_cases(),
         record_cases(),
         stale_cases(),
         cause_cases(),
@@ -163,8 +177,16 @@ fn the_evaluator_agrees_with_itself() {
         reported_grown_cases(),
         reported_cause_cases(),
         printed_cases(),
-    ];
-    let counts = compare(&program, cases.concat());
+    ]
+    .concat()
+}
+
+#[test]
+fn the_evaluator_agrees_with_itself() {
+    let program = StandIn {
+        mistake: Mistake::None,
+    };
+    let counts = compare(&program, all_cases());
     let counts = counts.unwrap_or_else(|difference| panic!("{difference}"));
     assert!(counts.cases > 900, "{counts}");
     for letter in "sexgobRYNwWvp".chars() {
@@ -178,7 +200,7 @@ fn the_evaluator_agrees_with_itself() {
 /// A mistake, and the cases that have to find it.
 type Finder = (Mistake, fn() -> Vec<Case>);
 
-const FINDERS: [Finder; 162] = [
+const FINDERS: [Finder; 183] = [
     (Mistake::NeverOpen, running_cases),
     (Mistake::JudgesAnew, stale_cases),
     (Mistake::JudgesAnew, crowded_stale_cases),
@@ -340,6 +362,27 @@ const FINDERS: [Finder; 162] = [
     (Mistake::WritesMiscounted, written_cases),
     (Mistake::ReportsMiscounted, reported_cause_cases),
     (Mistake::ReportsMiscounted, reported_cases),
+    (Mistake::JudgesEachAlone, bands_cases),
+    (Mistake::JudgesEachAlone, bands_stale_cases),
+    (Mistake::JudgesEachAlone, running_cases),
+    (Mistake::JudgesEachAlone, overall_cases),
+    (Mistake::LooksAtTheFirstAlone, bands_cases),
+    (Mistake::LooksAtTheFirstAlone, bands_stale_cases),
+    (Mistake::LooksAtTheFirstAlone, running_cases),
+    (Mistake::LooksAtTheLastAlone, bands_cases),
+    (Mistake::LooksAtTheLastAlone, bands_stale_cases),
+    (Mistake::LooksAtTheLastAlone, running_cases),
+    (Mistake::RefusesBandsInRecords, cause_cases),
+    (Mistake::RefusesBandsInRecords, bands_cases),
+    (Mistake::RefusesBandsInRecords, record_cases),
+    (Mistake::RefusesBandsInTexts, rules_cases),
+    (Mistake::RefusesBandsInTexts, fifth_cases),
+    (Mistake::DropsTheFifth, rules_cases),
+    (Mistake::DropsTheFifth, fifth_cases),
+    (Mistake::CountsCommasFirst, rules_cases),
+    (Mistake::CountsCommasFirst, fifth_cases),
+    (Mistake::CountsCommasLast, fifth_cases),
+    (Mistake::FifthAfterTheWindow, fifth_cases),
     (Mistake::EndsEarly, running_cases),
 ];
 

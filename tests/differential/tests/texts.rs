@@ -1,8 +1,9 @@
 //! The readers of the two texts and the notebook reading. `probe` is needed with
 //! the commands R, Y and N.
 
-use differential::cases::texts::{cycle_case, cycle_text_case, long_case, misfit_texts};
-use differential::cases::texts::{pair_case, pair_text_case, rules_case, rules_text_case};
+use differential::cases::texts::{cycle_case, cycle_text_case, fifth_texts, long_case};
+use differential::cases::texts::{misfit_texts, pair_case, pair_text_case};
+use differential::cases::texts::{rules_case, rules_text_case};
 use differential::command::LARGEST_TEXT;
 use differential::compare::agree;
 use differential::probe::Probe;
@@ -15,11 +16,14 @@ use evaluator::random::Random;
 fn random_rules_texts() {
     let counts = agree(&Probe::find(), (7_000_000..7_015_000).map(rules_case));
     assert_eq!(counts.calls('R'), 15_000);
-    assert_eq!(counts.numbers('R'), [0, 1, 2, 3, 4, 5, 6, 8, 12, 16]);
+    assert_eq!(counts.numbers('R'), [0, 1, 2, 3, 4, 6, 8, 12, 16, 17]);
     for number in counts.numbers('R') {
         let found = counts.answered('R', number);
         assert!(found >= 25, "{number}: {found}");
     }
+    assert!(counts.answered('R', 17) >= 500, "{counts}");
+    assert_eq!(counts.answered('R', 5), 0);
+    assert!(5 * counts.bands >= 2 * counts.conditions, "{counts}");
     assert!(counts.dumps('D') > counts.answered('R', 0) + 300);
 }
 
@@ -39,7 +43,7 @@ fn random_cycle_texts() {
 fn random_pairs_of_texts() {
     let counts = agree(&Probe::find(), (7_200_000..7_205_000).map(pair_case));
     assert_eq!(counts.calls('N'), 5000);
-    assert_eq!(counts.numbers('N'), [0, 1, 2, 3, 4, 5, 6, 7, 8, 12, 16]);
+    assert_eq!(counts.numbers('N'), [0, 1, 2, 3, 4, 6, 7, 8, 12, 16, 17]);
     assert!(counts.answered('N', 0) >= 2000);
     assert!(counts.dumps('D') > counts.answered('N', 0) + 50);
     assert!(counts.standings() >= 20_000);
@@ -133,11 +137,31 @@ fn rules_that_do_not_fit_their_template() {
     let cases = cases.map(|(number, text)| rules_text_case(number, text));
     let counts = agree(&Probe::find(), cases);
     assert_eq!(counts.calls('R'), number);
-    assert_eq!(counts.numbers('R'), [0, 3, 4, 5, 6, 8, 16]);
+    assert_eq!(counts.numbers('R'), [0, 3, 4, 6, 8, 16, 17]);
     // Of the first lines alone: 8 for each code from 12 to 16; a correlation under
     // 13 and 14, that or equal activities under 15 and 16.
     let found = [6, 16].map(|answer| counts.answered('R', answer));
     assert!(found[0] >= 5 * 8 && found[1] >= 2 * 4 + 2 * 6, "{found:?}");
+}
+
+/// 17 with its line: after the 4 and 3 of the first five comparisons, before those
+/// of a sixth and of the second condition, before 6, 16 and 8.
+#[test]
+fn conditions_of_more_than_four_comparisons() {
+    let texts = fifth_texts();
+    let number = texts.len();
+    let cases = (1..).zip(texts);
+    let cases = cases.map(|(number, text)| rules_text_case(number, text));
+    let counts = agree(&Probe::find(), cases);
+    assert_eq!(counts.calls('R'), number);
+    assert_eq!(counts.numbers('R'), [0, 3, 4, 6, 8, 16, 17]);
+    for number in [0, 3, 4, 6, 8, 16, 17] {
+        let found = counts.answered('R', number);
+        assert!(
+            found >= if number == 17 { 400 } else { 1 },
+            "{number}: {found}"
+        );
+    }
 }
 
 /// The text with every byte in place of each of its bytes, with each byte left
@@ -166,7 +190,18 @@ fn every_change_of_one_byte_in_rules() {
     let cases = cases.map(|(number, text)| rules_text_case(number, text));
     let counts = agree(&Probe::find(), cases);
     assert_eq!([counts.calls('R'), number], [text.len() * 269; 2]);
-    assert_eq!(counts.numbers('R'), [0, 1, 2, 3, 4, 5, 6, 12, 16]);
+    assert_eq!(counts.numbers('R'), [0, 1, 2, 3, 4, 6, 12, 16]);
+}
+
+/// A byte less or another one does not make four of them.
+#[test]
+fn every_change_of_one_byte_in_five_comparisons() {
+    let text = "2\t1\t2\t0\t9\t1>5,1<7,1!6,2=0,3=1\t-\n";
+    let cases = (0..).zip(byte_changes(text));
+    let cases = cases.map(|(number, text)| rules_text_case(number, text));
+    let counts = agree(&Probe::find(), cases);
+    assert_eq!(counts.calls('R'), text.len() * 269);
+    assert_eq!(counts.numbers('R'), [1, 2, 3, 4, 12, 17]);
 }
 
 #[test]

@@ -3,7 +3,8 @@
 //! of several.
 //!
 //! There are few activities, most windows are wide, and most conditions are
-//! empty or weak. All rules and cycles are valid.
+//! empty or weak, also where they compare a reading more than once. All rules and
+//! cycles are valid.
 
 use crate::model::{Comparison, Event, Operator, Rule, Standing, World};
 use crate::random::Random;
@@ -61,14 +62,58 @@ const WEAK: [Operator; 3] = [
 fn activation_condition(random: &mut Random) -> Vec<Comparison> {
     let k = random.pick(&[0, 1, 2]);
     let comparison = Comparison::with_constant(1, random.pick(&WEAK), k);
-    random.one_in(6).then_some(comparison).into_iter().collect()
+    match random.below(12) {
+        0..=5 => band(random, |operator, k| {
+            Comparison::with_constant(1, operator, k + 1)
+        }),
+        6..=7 => vec![comparison],
+        _ => Vec::new(),
+    }
 }
 
 fn correlation(random: &mut Random) -> Vec<Comparison> {
     let k = random.pick(&[-1, 0, 1]);
     let comparison = Comparison::with_activation(1, random.pick(&WEAK), 1, k);
-    random.one_in(4).then_some(comparison).into_iter().collect()
+    match random.below(12) {
+        0..=5 => band(random, |operator, k| {
+            Comparison::with_activation(1, operator, 1, k)
+        }),
+        6..=8 => vec![comparison],
+        _ => Vec::new(),
+    }
 }
+
+/// Two to four comparisons of reading 1 that most of the readings below meet.
+fn band(random: &mut Random, compare: impl Fn(Operator, i32) -> Comparison) -> Vec<Comparison> {
+    let low = random.pick(&[-3, -2, -1, -1]);
+    let high = random.pick(&[1, 1, 2, 3]);
+    let mut band = vec![
+        compare(Operator::GreaterOrEqual, low),
+        compare(Operator::LessOrEqual, high),
+    ];
+    for _ in 0..random.pick(&[0, 0, 1, 2]) {
+        let left_out = random.pick(&[-2, -1, 1, 2]);
+        let at = random.below(band.len() + 1);
+        band.insert(at, compare(Operator::NotEqual, left_out));
+    }
+    band
+}
+
+/// Mostly 1, seldom blank.
+const READINGS: [Option<i32>; 12] = [
+    Some(0),
+    Some(0),
+    Some(1),
+    Some(1),
+    Some(1),
+    Some(1),
+    Some(1),
+    Some(1),
+    Some(1),
+    Some(2),
+    Some(2),
+    None,
+];
 
 /// A cycle of `length` events. Activity 2, the target of most rules, is the most
 /// frequent, so that several lie between two activations.
@@ -77,7 +122,7 @@ pub fn crowded_cycle(random: &mut Random, length: usize) -> Vec<Event> {
     (0..length)
         .map(|_| {
             let mut event = Event::new(time, random.pick(&[1, 1, 2, 2, 2, 2, 9]));
-            event.readings[0] = random.pick(&[Some(0), Some(1), Some(1), Some(2), None]);
+            event.readings[0] = random.pick(&READINGS);
             time = time.saturating_add(random.pick(&[0, 1, 1, 2, 3, 5, 10]));
             event
         })

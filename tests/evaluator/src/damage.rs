@@ -31,12 +31,19 @@ pub enum Damage {
     MixedComparison,
     /// In a rule's condition: one of its own comparisons once more.
     RepeatComparison,
+    /// In a rule's condition: four to six comparisons.
+    ManyComparisons,
+    /// In a rule's condition: four to six comparisons, of which one of the last
+    /// ones is of the list below or put together from random parts.
+    ManyAndOdd,
     /// In a rule's condition: another byte in place of an operator.
     OtherOperator,
     /// In a rule: a code from 13 to 16 in place of its code.
     OverallCode,
     /// In a rule: its activation activity also as its target activity.
     EqualActivities,
+    /// In a rule: its a also as its b.
+    EmptyWindow,
     /// One line more than the text may have.
     OneTooMany,
     /// As many lines as the text may have.
@@ -44,7 +51,7 @@ pub enum Damage {
 }
 
 impl Damage {
-    pub const ALL: [Damage; 24] = [
+    pub const ALL: [Damage; 27] = [
         Damage::ChangeByte,
         Damage::DropByte,
         Damage::DoubleByte,
@@ -64,9 +71,12 @@ impl Damage {
         Damage::OddComparison,
         Damage::MixedComparison,
         Damage::RepeatComparison,
+        Damage::ManyComparisons,
+        Damage::ManyAndOdd,
         Damage::OtherOperator,
         Damage::OverallCode,
         Damage::EqualActivities,
+        Damage::EmptyWindow,
         Damage::OneTooMany,
         Damage::Full,
     ];
@@ -190,7 +200,10 @@ pub fn damaged_cycle_text(random: &mut Random) -> Vec<u8> {
 
 fn damaged(random: &mut Random, mut text: Vec<u8>, limit: usize) -> Vec<u8> {
     for _ in 0..random.pick(&[1, 1, 1, 2, 3]) {
-        let kind = random.pick(&Damage::ALL);
+        let kind = match random.one_in(8) && limit == RULE_SLOTS {
+            true => random.pick(&[Damage::ManyComparisons, Damage::ManyAndOdd]),
+            false => random.pick(&Damage::ALL),
+        };
         text = damage(random, &text, kind, limit);
     }
     text
@@ -298,12 +311,13 @@ fn damage_fields(random: &mut Random, fields: &mut Vec<Vec<u8>>, kind: Damage) {
             fields[0] = code.as_bytes().to_vec();
         }
         Damage::EqualActivities if fields.len() > 2 => fields[2] = fields[1].clone(),
-        Damage::EqualActivities => {}
+        Damage::EmptyWindow if fields.len() > 4 => fields[4] = fields[3].clone(),
+        Damage::EqualActivities | Damage::EmptyWindow => {}
         _ => {
             // The conditions are the last two fields of a rule line.
             let back = 1 + random.below(2).min(fields.len() - 1);
             let last = fields.len() - back;
-            damage_condition(random, &mut fields[last], kind);
+            damage_condition(random, &mut fields[last], kind, back == 1);
         }
     }
 }
@@ -318,8 +332,18 @@ fn edge_field(random: &mut Random) -> Vec<u8> {
     random.pick(&EDGE_FIELDS).as_bytes().to_vec()
 }
 
-fn damage_condition(random: &mut Random, field: &mut Vec<u8>, kind: Damage) {
+fn damage_condition(random: &mut Random, field: &mut Vec<u8>, kind: Damage, correlation: bool) {
     match kind {
+        Damage::ManyComparisons => *field = many_comparisons(random, correlation).join(&b','),
+        Damage::ManyAndOdd => {
+            let mut parts = many_comparisons(random, correlation);
+            let at = parts.len() - 1 - random.below(3);
+            parts[at] = match random.one_in(2) {
+                true => random.pick(&ODD_COMPARISONS).as_bytes().to_vec(),
+                false => mixed_comparison(random),
+            };
+            *field = parts.join(&b',');
+        }
         Damage::OddComparison => {
             let odd = random.pick(&ODD_COMPARISONS).as_bytes();
             put_comparison(random, field, odd);
@@ -349,6 +373,22 @@ fn put_comparison(random: &mut Random, field: &mut Vec<u8>, comparison: &[u8]) {
         1 => [&field[..], b",", comparison].concat(),
         _ => [comparison, b",", &field[..]].concat(),
     };
+}
+
+/// Four to six comparisons of the right form, on any readings.
+fn many_comparisons(random: &mut Random, correlation: bool) -> Vec<Vec<u8>> {
+    let count = random.pick(&[4, 5, 5, 6]);
+    let one = |random: &mut Random| {
+        let reading = random.pick(b"11112234");
+        let operator = random.pick(b"=!<l>g");
+        let reference = match correlation && random.one_in(2) {
+            true => random.pick(&["@1:", "@4:"]),
+            false => "",
+        };
+        let k = random.pick(&["0", "5", "7", "-1", "2147483647", "-2147483648"]);
+        [&[reading, operator], reference.as_bytes(), k.as_bytes()].concat()
+    };
+    (0..count).map(|_| one(random)).collect()
 }
 
 /// A reading, an operator, a reference and an edge value for k, each of them

@@ -205,11 +205,14 @@ fn change_rule(random: &mut Random, rule: &mut RuleSlot) {
 
 fn change_condition(random: &mut Random, condition: &mut ConditionSlot) {
     let reading = random.pick(&[0, 1, 2, 3, 4, 5, 255]);
+    let beside = random.pick(&condition.comparisons).reading;
     let comparison = &mut condition.comparisons[random.below(4)];
-    match random.below(4) {
+    match random.below(5) {
         0 => condition.count = random.pick(&[0, 1, 2, 3, 4, 5, 255]),
         1 => comparison.reading = reading,
-        2 => comparison.operator = random.pick(&Operator::ALL),
+        // One that is compared already, perhaps.
+        2 => comparison.reading = beside,
+        3 => comparison.operator = random.pick(&Operator::ALL),
         _ => comparison.reference = random_reference(random),
     }
 }

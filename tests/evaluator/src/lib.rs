@@ -32,7 +32,8 @@
 //!
 //! Generators of test cases, all from a seed:
 //!
-//! - [`random`]: rules and cycles around the critical values.
+//! - [`random`]: rules and cycles around the critical values, [`bands`]: conditions
+//!   in which a reading is compared more than once.
 //! - [`crowded`]: rules and cycles in which many events are eligible.
 //! - [`damage`]: texts, valid and damaged.
 //! - [`long_numbers`]: texts with numbers of up to 5,000 digits.
@@ -43,6 +44,7 @@
 //! - [`listing`]: document 01's.
 //! - [`stored`]: the texts of tests/cases and examples/.
 
+pub mod bands;
 pub mod condition;
 pub mod crowded;
 pub mod damage;

@@ -16,10 +16,13 @@
 //! 2. As a function of the time, "in the window" changes its truth only at the
 //!    activation's time plus a and plus b. The times tried have both, their
 //!    neighbours and the two ends of the range that is left.
-//! 3. As a function of one reading, a comparison changes its truth only at its
-//!    reference value and beside it, and a blank makes it false. The values
-//!    tried have these, their neighbours, both ends of the range and the blank.
-//!    No other comparison of the same condition tests that reading.
+//! 3. All comparisons of one reading, those of both conditions, are taken
+//!    together. As functions of that reading they change their truths only at
+//!    their reference values, and a blank makes them false. The values tried have
+//!    the reference values, their neighbours, both ends of the range and the
+//!    blank. Between two neighbouring reference values all truths stay the same;
+//!    if any value is there, the one beside the lower, or an end of the range, is
+//!    tried. So every list of truths that some value has is that of a value tried.
 //! 4. One added event is enough to change a verdict if any list is: the
 //!    verdict changes only when an added event becomes eligible, and an
 //!    eligible added event stays so when all other added events are left out.

@@ -95,7 +95,7 @@ fn with_long_numbers(random: &mut Random, text: Vec<u8>) -> Vec<u8> {
         let field = random.below(fields.len());
         // The conditions are the last two fields of a rule line, the only one with seven.
         fields[field] = match fields.len() == 7 && field >= 5 {
-            true => comparison(random, field == 6),
+            true => comparisons(random, field == 6),
             false => odd_number(random),
         };
         lines[at] = [fields.join(&b'\t'), b"\n".to_vec()].concat();
@@ -103,20 +103,26 @@ fn with_long_numbers(random: &mut Random, text: Vec<u8>) -> Vec<u8> {
     lines.concat()
 }
 
-/// Up to two comparisons with such a k each.
-fn comparison(random: &mut Random, correlation: bool) -> Vec<u8> {
-    let one = |random: &mut Random, reading: u8| {
+/// One to six comparisons on any readings; one of them, or each of two, has such
+/// a k.
+fn comparisons(random: &mut Random, correlation: bool) -> Vec<u8> {
+    let count = random.pick(&[1, 1, 2, 2, 4, 5, 6]);
+    let odd = random.below(count);
+    let mut parts = Vec::new();
+    for place in 0..count {
+        let reading = random.pick(b"1112234");
         let operator = random.pick(b"=!<l>g");
         let reference = match correlation && random.one_in(2) {
             true => random.pick(&[&b"@1:"[..], b"@4:"]),
             false => b"",
         };
-        [&[reading, operator], reference, &odd_number(random)].concat()
-    };
-    match random.one_in(2) {
-        true => one(random, b'3'),
-        false => [one(random, b'1'), one(random, b'2')].join(&b','),
+        let k = match place == odd || count == 2 {
+            true => odd_number(random),
+            false => b"5".to_vec(),
+        };
+        parts.push([&[reading, operator], reference, &k].concat());
     }
+    parts.join(&b',')
 }
 
 /// A rules text with long numbers.

@@ -1,6 +1,6 @@
 //! Events, rules and standings, and the limits that document 01 sets on them.
 
-use std::collections::BTreeSet;
+use crate::slots::COMPARISON_SLOTS;
 
 /// The limits on events. The default has document 01's values; a small world
 /// can be enumerated in full.
@@ -226,10 +226,9 @@ impl Rule {
     }
 }
 
-/// Readings 1 to 4, and "no reading is tested twice in one condition".
+/// "up to four comparisons in a condition, on any readings", which are 1 to 4.
 fn is_valid_condition(condition: &[Comparison]) -> bool {
-    let tested: BTreeSet<u8> = condition.iter().map(|c| c.reading).collect();
-    tested.len() == condition.len() && condition.iter().all(Comparison::names_known_readings)
+    condition.len() <= COMPARISON_SLOTS && condition.iter().all(Comparison::names_known_readings)
 }
 
 /// "or in a correlation also": an activation condition has constants only.

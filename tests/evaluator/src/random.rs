@@ -3,6 +3,7 @@
 //! The same seed gives the same rules and cycles. All rules are valid, and all
 //! cycles have well-formed events and times that never fall.
 
+use crate::bands::{random_band, unmeetable_band};
 use crate::condition::reference_value;
 use crate::model::{Comparison, Event, Operator, Reference, Rule, World};
 
@@ -82,14 +83,18 @@ pub fn random_overall_rule(random: &mut Random) -> Rule {
     let (a, b) = random_window(random);
     let condition = match random.below(8) {
         0 => unmeetable_condition(random),
-        1..=3 => Vec::new(),
+        1 => Vec::new(),
         _ => random_condition(random, false),
     };
     Rule::new(code, activation, target, a, b).with_activation_condition(condition)
 }
 
-/// A condition with a comparison that no reading meets.
+/// A condition with a comparison that no reading meets, or with several that none
+/// meets together.
 fn unmeetable_condition(random: &mut Random) -> Vec<Comparison> {
+    if random.one_in(2) {
+        return unmeetable_band(random);
+    }
     let mut condition = random_condition(random, false);
     let never = match random.one_in(2) {
         true => (Operator::Less, LEAST),
@@ -123,8 +128,12 @@ fn random_window(random: &mut Random) -> (u32, Option<u32>) {
     (a, b)
 }
 
-/// Mostly none, one or two comparisons, now and then one for each reading.
+/// In every second condition a reading is compared more than once. The others have
+/// mostly none, one or two comparisons, now and then one for each reading.
 fn random_condition(random: &mut Random, correlation: bool) -> Vec<Comparison> {
+    if random.one_in(2) {
+        return random_band(random, correlation);
+    }
     let count = random.pick(&[0, 0, 0, 0, 1, 1, 1, 1, 2, 2, 3, 4]);
     let mut numbers = if count <= 2 {
         vec![1, 2]
@@ -144,7 +153,8 @@ fn random_condition(random: &mut Random, correlation: bool) -> Vec<Comparison> {
         .collect()
 }
 
-fn random_reference(random: &mut Random, correlation: bool) -> Reference {
+/// A constant, or in a correlation mostly a sum.
+pub(crate) fn random_reference(random: &mut Random, correlation: bool) -> Reference {
     if correlation && !random.one_in(3) {
         return Reference::Activation {
             reading: random.pick(&[1, 1, 1, 2, 2, 3, 4]),

@@ -9,7 +9,7 @@ use crate::model::{Comparison, Event, Operator, Rule, World};
 /// "A run has 0 to 16 rules and at most 256 events."
 pub const RULE_SLOTS: usize = 16;
 pub const EVENT_SLOTS: usize = 256;
-/// There are four readings, and "no reading is tested twice in one condition".
+/// "up to four comparisons in a condition, on any readings"
 pub const COMPARISON_SLOTS: usize = 4;
 
 /// An event slot; its activity may be outside 1 to 64.

@@ -1,14 +1,15 @@
 //! The readers of the two texts of document 01, "The texts", and their
 //! writers.
 //!
-//! "Lines are read downward, the first refusal ends it. In a line: 12, 1, then
-//! field by field 2 or 4, 3, 5 (in a condition comparison by comparison), then
-//! 6 or 7, then 8." Card 3 of document 02 adds 16: "it follows 6".
+//! "Lines are read downward, the first refusal ends it." In a line: 12, 1, then
+//! field by field 2 or 4, 3, 17 (in a condition comparison by comparison), then 6
+//! or 7, then 16, then 8. Of these, cards of document 02 add 16, "it follows 6",
+//! and 17, "a fifth comparison in one condition".
 
 use crate::model::{Comparison, Event, Operator, Reference, Rule};
 use crate::natural::Natural;
 use crate::refusal::Refusal;
-use crate::slots::{EVENT_SLOTS, RULE_SLOTS};
+use crate::slots::{COMPARISON_SLOTS, EVENT_SLOTS, RULE_SLOTS};
 use std::ops::RangeInclusive;
 
 const CODES: RangeInclusive<i128> = 1..=16;
@@ -158,7 +159,8 @@ fn within(field: &[u8], range: RangeInclusive<i128>) -> Result<i128, u8> {
     Some(value).filter(|value| range.contains(value)).ok_or(3)
 }
 
-/// "Comparisons are parted by commas".
+/// "Comparisons are parted by commas". The fifth is read before it is refused, and
+/// what follows it is not looked at.
 fn condition_of(field: &[u8], correlation: bool) -> Result<Vec<Comparison>, u8> {
     if field == b"-" {
         return Ok(Vec::new());
@@ -166,9 +168,9 @@ fn condition_of(field: &[u8], correlation: bool) -> Result<Vec<Comparison>, u8> 
     let mut condition: Vec<Comparison> = Vec::new();
     for part in field.split(|byte| *byte == b',') {
         let comparison = comparison_of(part, correlation)?;
-        // "reading compared a second time"
-        if condition.iter().any(|c| c.reading == comparison.reading) {
-            return Err(5);
+        // "a fifth comparison in one condition"
+        if condition.len() == COMPARISON_SLOTS {
+            return Err(17);
         }
         condition.push(comparison);
     }

@@ -1,5 +1,5 @@
 //! The reader of conditions. "A k not of the number form is 4, one outside its
-//! range 3." In a condition the order is 4, 3, 5, comparison by comparison.
+//! range 3." In a condition the order is 4, 3, 17, comparison by comparison.
 
 use evaluator::read_rules;
 
@@ -43,8 +43,13 @@ fn accepted_conditions() {
     with_reference(0, &["1=@1:0", "1!@4:-1", "4g@2:2147483647"]);
     with_reference(0, &["1l@1:-2147483648", "1=@1:0,2=0", "2=0,1=@1:0"]);
     with_reference(0, &["1=@1:0,2=@1:0,3=@1:0,4=@1:0"]);
-    // The same reading may be tested in both conditions.
+    // Any readings, once or more often, in one condition and in both.
+    both(0, &["1g200,1l300", "1=0,1=0", "4=0,2=0,4=0", "1=0,2=0,2=1"]);
+    both(0, &["1>5,1<7,1!6", "1=0,1=0,1=0,1=0", "3!1,4!1,4!2,3!2"]);
+    with_reference(0, &["1=@1:0,1=0", "1=0,1=@1:0", "1g@1:-5,1l@1:5"]);
+    with_reference(0, &["1=@1:0,1=@2:0,1=@3:0,1=@4:0"]);
     assert_eq!(judged("1=0,2=0", "2=0,1=@1:0"), 0);
+    assert_eq!(judged("1g0,1l9,1!5,1!6", "1g@1:0,1l@1:9,1!5,1!6"), 0);
 }
 
 #[test]
@@ -149,26 +154,68 @@ fn commas_part_comparisons_and_nothing_else() {
 }
 
 #[test]
-fn a_reading_compared_a_second_time_is_5() {
-    both(5, &["1=0,1=0", "1=0,1>5", "4=0,2=0,4=0", "1=0,2=0,2=1"]);
-    both(5, &["1=0,2=0,3=0,4=0,1=0", "1=0,2=0,3=0,4=0,4=0,4=0"]);
-    with_reference(5, &["1=@1:0,1=0", "1=0,1=@1:0", "1=@1:0,1=@2:0"]);
+fn a_fifth_comparison_is_17() {
+    both(17, &["1=0,2=0,3=0,4=0,1=0", "1=0,1=0,1=0,1=0,1=0"]);
+    both(17, &["4!1,4!2,4!3,4!4,4!5", "1=0,2=0,3=0,4=0,4=0,4=0"]);
+    with_reference(17, &["1=@1:0,1=0,1=0,1=0,1=0", "1=0,2=0,3=0,4=0,1=@1:0"]);
+    let hundred = vec!["1=0"; 100].join(",");
+    both(17, &[&hundred]);
+    // The two conditions are counted each for itself.
+    assert_eq!(judged("1=0,2=0,3=0,4=0", "1=0,2=0,3=0,4=0"), 0);
+    assert_eq!(judged("1=0,1=0,1=0,1=0", "1=0,1=0,1=0,1=0,1=0"), 17);
 }
 
 #[test]
 fn comparisons_are_judged_one_by_one() {
-    // In one comparison 4 precedes 3, and 3 precedes 5.
+    // In one comparison 4 precedes 3, and 3 precedes 17.
     both(4, &["1=0,1=x", "1=0,1=", "1=0,2=0,3=0,4=0,5=0"]);
+    both(
+        4,
+        &[
+            "1=0,2=0,3=0,4=0,",
+            "1=0,2=0,3=0,4=0,1=x",
+            "1=0,1=0,1=0,1=0,-",
+        ],
+    );
     both(3, &["1=0,1=2147483648", "1=0,2=0,1=-2147483649"]);
+    both(
+        3,
+        &[
+            "1=0,2=0,3=0,4=0,1=2147483648",
+            "1=0,1=0,1=0,1=0,1=-2147483649",
+        ],
+    );
     // Every fault of a comparison precedes those of the next one.
     both(
         3,
         &["1=2147483648,x", "1=0,2=2147483648,1=0", "1=2147483648,1=0"],
     );
-    both(5, &["1=0,1=0,x", "1=0,1=1,2=2147483648", "1=0,1=0,"]);
     both(4, &["x,1=2147483648", "1=0,x,1=0", "x,x"]);
+    both(4, &["1=0,x,1=0,1=0,1=0", "1=0,1=0,1=0,x,1=0,1=0"]);
+    both(
+        3,
+        &[
+            "1=0,1=0,1=0,1=2147483648,1=0",
+            "1=2147483648,1=0,1=0,1=0,1=0,x",
+        ],
+    );
     with_reference(3, &["2=@1:2147483648,1=@5:0"]);
-    with_reference(5, &["2=0,2=@1:0,1=@1:2147483648"]);
-    assert_eq!(judged("1=0,1=0,1=@1:0", "-"), 5);
+    assert_eq!(judged("1=0,1=0,1=0,1=0,1=@1:0", "-"), 4);
     assert_eq!(judged("1=2147483648,1=@1:0", "-"), 3);
+}
+
+#[test]
+fn a_fifth_comparison_precedes_a_sixth_and_the_second_condition() {
+    // A sixth is not looked at.
+    both(17, &["1=0,1=0,1=0,1=0,1=0,x", "1=0,2=0,3=0,4=0,1=0,"]);
+    both(
+        17,
+        &["1=0,1=0,1=0,1=0,1=0,2=2147483648", "1=0,1=0,1=0,1=0,1=0,,"],
+    );
+    with_reference(17, &["2=0,2=0,2=0,2=0,2=@1:0,1=@1:2147483648"]);
+    assert_eq!(judged("1=0,1=0,1=0,1=0,1=0,1=@1:0", "-"), 17);
+    // The first condition is read before the second.
+    assert_eq!(judged("1=0,1=0,1=0,1=0,1=0", "x"), 17);
+    assert_eq!(judged("x", "1=0,1=0,1=0,1=0,1=0"), 4);
+    assert_eq!(judged("1=2147483648", "1=0,1=0,1=0,1=0,1=0"), 3);
 }

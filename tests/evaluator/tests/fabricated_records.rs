@@ -15,19 +15,14 @@ fn wrong_condition(slot: &ConditionSlot, correlation: bool) -> bool {
     if slot.count > 4 {
         return true;
     }
-    let mut compared = [false; 256];
-    for comparison in &slot.comparisons[..slot.count as usize] {
+    let mut used = slot.comparisons[..slot.count as usize].iter();
+    used.any(|comparison| {
         let wrong_reference = match comparison.reference {
             Reference::Constant(_) => false,
             Reference::Activation { reading, .. } => !correlation || !(1..=4).contains(&reading),
         };
-        let reading = comparison.reading as usize;
-        if wrong_reference || !(1..=4).contains(&reading) || compared[reading] {
-            return true;
-        }
-        compared[reading] = true;
-    }
-    false
+        wrong_reference || !(1..=4).contains(&comparison.reading)
+    })
 }
 
 fn wrong_rule(rule: &RuleSlot) -> bool {

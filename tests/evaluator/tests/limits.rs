@@ -110,14 +110,19 @@ fn comparisons_name_readings_1_to_4() {
     }
 }
 
+/// "up to four comparisons in a condition, on any readings"
 #[test]
-fn no_reading_is_tested_twice_in_one_condition() {
+fn a_condition_has_at_most_four_comparisons_on_any_readings() {
     let low = Comparison::with_constant(2, Less, 5);
-    let high = Comparison::with_constant(2, Equal, 4);
+    let equal = Comparison::with_constant(2, Equal, 4);
     let other = Comparison::with_constant(3, Equal, 4);
-    assert!(!with_conditions(vec![low, high], vec![]));
-    assert!(!with_conditions(vec![], vec![low, other, low]));
-    assert!(with_conditions(vec![low, other], vec![other, high]));
+    assert!(with_conditions(vec![low, equal], vec![low, other, low]));
+    assert!(with_conditions(vec![low; 4], vec![equal; 4]));
+    for five in [vec![low; 5], vec![low, equal, other, low, equal]] {
+        assert!(with_conditions(five[..4].to_vec(), five[1..].to_vec()));
+        assert!(!with_conditions(five.clone(), vec![]));
+        assert!(!with_conditions(vec![], five));
+    }
 }
 
 #[test]

@@ -110,7 +110,7 @@ fn crowded_rules_and_cycles() {
 fn running_standings_name_the_same_target() {
     let mut random = Random::new(73);
     let mut decided = 0;
-    for _ in 0..600 {
+    for _ in 0..700 {
         let (rule, events) = crowded_pair(&mut random);
         for taken in 1..=events.len() {
             let now = standings(&rule, &events[..taken]);

@@ -105,7 +105,7 @@ fn generated_texts_are_accepted_or_refused_for_a_number() {
                 // equal, a time fall; a comma in it begins another comparison.
                 Some(number) => {
                     refused += 1;
-                    assert!([2, 3, 4, 5, 6, 7, 16].contains(&number), "{number}");
+                    assert!([2, 3, 4, 6, 7, 16, 17].contains(&number), "{number}");
                 }
             }
         }

@@ -2,6 +2,7 @@
 //! continuation up to a length, from no events on. The standing at position 0 from
 //! all of these must be the standing from the search.
 
+use evaluator::condition::meets;
 use evaluator::Operator::{self, *};
 use evaluator::Standing::{self, Open};
 use evaluator::{outcomes_in, standing_in, verdict, Comparison, Event, Rule, World};
@@ -15,16 +16,30 @@ const SMALL: World = World {
     largest_reading: 1,
 };
 
-/// Every event of the world, with reading 1 blank, 0 or 1, or blank alone.
+/// Times 0 and 1, activities 1 to 3, readings −1 to 1.
+const BANDS: World = World {
+    largest_time: 1,
+    largest_activity: 3,
+    least_reading: -1,
+    largest_reading: 1,
+};
+
+/// Every event of the small world, with reading 1 blank, 0 or 1, or blank alone.
 fn all_events(with_readings: bool) -> Vec<Event> {
+    let all = events_of(&SMALL).into_iter();
+    all.filter(|event| with_readings || event.reading(1).is_none())
+        .collect()
+}
+
+/// Every event of a world, with the readings but for the first one blank.
+fn events_of(world: &World) -> Vec<Event> {
     let mut events = Vec::new();
-    for time in 0..=SMALL.largest_time {
-        for activity in 1..=SMALL.largest_activity {
+    for time in 0..=world.largest_time {
+        for activity in 1..=world.largest_activity {
             let blank = Event::new(time, activity);
+            let values = world.least_reading..=world.largest_reading;
             events.push(blank);
-            if with_readings {
-                events.extend([0, 1].map(|value| blank.with_reading(1, value)));
-            }
+            events.extend(values.map(|value| blank.with_reading(1, value)));
         }
     }
     events
@@ -64,14 +79,26 @@ fn outcomes(
     found
 }
 
-/// Demand 3's words on the outcomes of all continuations; whether it is open.
+/// [`compare_in`] the small world.
 fn compare(rule: &Rule, all: &[Event], prefix: &[Event], horizon: u32, length: usize) -> bool {
+    compare_in(&SMALL, rule, all, prefix, horizon, length)
+}
+
+/// Demand 3's words on the outcomes of all continuations; whether it is open.
+fn compare_in(
+    world: &World,
+    rule: &Rule,
+    all: &[Event],
+    prefix: &[Event],
+    horizon: u32,
+    length: usize,
+) -> bool {
     let expected = outcomes(rule, all, &mut prefix.to_vec(), horizon, length);
-    let found = standing_in(&SMALL, rule, prefix, horizon, 0);
+    let found = standing_in(world, rule, prefix, horizon, 0);
     let shown = format!("{rule:?} {prefix:?} {horizon}");
     if expected.iter().all(|s| s.is_fulfilled()) || expected.iter().all(|s| s.is_violated()) {
         assert_eq!(expected, BTreeSet::from([found]), "{shown}");
-        let searched = outcomes_in(&SMALL, rule, prefix, horizon, 0);
+        let searched = outcomes_in(world, rule, prefix, horizon, 0);
         assert_eq!(searched, expected, "{shown}");
         return false;
     }
@@ -143,6 +170,8 @@ fn enumeration_has_every_event_and_cycle() {
     assert_eq!(all_cycles(&all_events(false), 2).len(), 10 * 9);
     let all = all_events(true);
     assert!(all.iter().all(|event| event.is_well_formed(&SMALL)));
+    assert_eq!(all_events(false).len(), 4 * 3);
+    assert_eq!(events_of(&BANDS).len(), 2 * 3 * 4);
 }
 
 /// Before the first event a rule is decided if no readings meet its condition, and
@@ -195,6 +224,44 @@ fn one_event_with_two_added() {
     let rules = rules(&WINDOWS, &conditions()[..3]);
     let counts = compare_all(&rules, &all_events(true), 1, 2);
     assert!(counts.iter().all(|count| *count > 1000), "{counts:?}");
+}
+
+/// Every choice of three comparisons of reading 1 with a value of the world or the
+/// one beside it; the same one may come again.
+fn triples() -> Vec<Vec<Comparison>> {
+    let single = |operator| (-2..=2).flat_map(move |k| constant(operator, k));
+    let all: Vec<Comparison> = Operator::ALL.into_iter().flat_map(single).collect();
+    let mut triples = Vec::new();
+    for (first, one) in all.iter().enumerate() {
+        for (second, two) in all.iter().enumerate().skip(first) {
+            let third = all[second..].iter();
+            triples.extend(third.map(|three| vec![*one, *two, *three]));
+        }
+    }
+    triples
+}
+
+/// From no events and from one, with every continuation by at most one more.
+#[test]
+fn three_comparisons_of_one_reading() {
+    let triples = triples();
+    assert_eq!(triples.len(), 32 * 31 * 30 / 6);
+    let all = events_of(&BANDS);
+    let mut counts = [0; 2];
+    for rule in rules(&[(0, None)], &triples) {
+        counts[usize::from(compare_in(&BANDS, &rule, &all, &[], 0, 1))] += 1;
+        for first in all.iter().filter(|event| event.time == 0) {
+            compare_in(&BANDS, &rule, &all, &[*first], 0, 1);
+        }
+    }
+    // A triple that a value in the range meets leaves the rule open at start.
+    let open = triples.iter().filter(|triple| {
+        let mut values = (-1..=1).map(|value| Event::new(0, 1).with_reading(1, value));
+        values.any(|event| meets(triple, &event, &event))
+    });
+    let open = 6 * open.count();
+    assert_eq!(counts, [6 * triples.len() - open, open]);
+    assert!(counts.iter().all(|count| *count > 5000), "{counts:?}");
 }
 
 #[test]

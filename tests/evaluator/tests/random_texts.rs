@@ -69,14 +69,11 @@ fn fields_of(text: &[u8], refusal: Refusal) -> Vec<String> {
     content.split('\t').map(str::to_string).collect()
 }
 
-/// Whether one condition names a reading twice.
-fn repeats(condition: &str) -> bool {
-    let digits: Vec<_> = condition
-        .split(',')
-        .map(|part| part.chars().next())
-        .collect();
-    let different: BTreeSet<_> = digits.iter().collect();
-    different.len() < digits.len()
+/// Whether a condition has a fifth comparison, and its first five have the length
+/// of one.
+fn has_a_fifth(condition: &str) -> bool {
+    let parts: Vec<&str> = condition.split(',').collect();
+    parts.len() > 4 && parts[..5].iter().all(|part| part.len() >= 3)
 }
 
 /// A number outside its range is 0 or has two digits or more.
@@ -96,7 +93,6 @@ fn rules_cause_is_right(text: &[u8], refusal: Refusal) {
             || (field.starts_with('0') && field != "0"))),
         3 => assert!(has_far_number(&fields)),
         4 => assert!(fields[5..].iter().any(|field| field != "-")),
-        5 => assert!(fields[5..].iter().any(|field| repeats(field))),
         6 => {
             let [a, b] = [&fields[3], &fields[4]].map(|field| field.parse::<u64>());
             assert!(b.expect("b is a number") <= a.expect("a is a number"));
@@ -106,6 +102,7 @@ fn rules_cause_is_right(text: &[u8], refusal: Refusal) {
             let equal = fields[1] == fields[2] && code >= 15;
             assert!((13..=16).contains(&code) && (equal || fields[6] != "-"));
         }
+        17 => assert!(fields[5..].iter().any(|field| has_a_fifth(field))),
         other => panic!("{other} is no refusal of a rules text"),
     }
 }
@@ -146,7 +143,7 @@ fn damaged_rules_texts() {
         *seen.entry(number).or_default() += 1;
     }
     let numbers: Vec<u8> = seen.keys().copied().collect();
-    assert_eq!(numbers, [0, 1, 2, 3, 4, 5, 6, 8, 12, 16], "{seen:?}");
+    assert_eq!(numbers, [0, 1, 2, 3, 4, 6, 8, 12, 16, 17], "{seen:?}");
     assert!(seen.values().all(|count| *count > 40), "{seen:?}");
 }
 
@@ -224,13 +221,17 @@ fn each_kind_of_damage_has_its_refusals() {
         (Damage::SwapLines, &[0]),
         (Damage::DropLine, &[0]),
         (Damage::DoubleLine, &[0]),
-        // `-` alone becomes `-,-`, a comparison becomes two.
-        (Damage::RepeatComparison, &[4, 5]),
+        // `-` alone becomes `-,-`, four comparisons become five.
+        (Damage::RepeatComparison, &[0, 4, 17]),
         // A rule about the cycle has no correlation.
-        (Damage::OddComparison, &[0, 3, 4, 5, 16]),
-        (Damage::MixedComparison, &[0, 3, 4, 5, 16]),
+        (Damage::OddComparison, &[0, 3, 4, 16, 17]),
+        (Damage::MixedComparison, &[0, 3, 4, 16, 17]),
+        (Damage::ManyComparisons, &[0, 16, 17]),
+        (Damage::ManyAndOdd, &[0, 3, 4, 16, 17]),
         (Damage::OverallCode, &[0, 16]),
         (Damage::EqualActivities, &[0, 16]),
+        // An end of 0 is outside its range.
+        (Damage::EmptyWindow, &[3, 6]),
     ] {
         let found: Vec<u8> = after_damage(kind).0.into_iter().collect();
         assert_eq!(found, numbers, "{kind:?}");

@@ -50,8 +50,8 @@ fn refused_texts() {
     assert_eq!(printed("\n", ""), "refused\trules\t1\t1\n");
     let seventeen = "2\t1\t2\t0\t-\t-\t-\n".repeat(17);
     assert_eq!(printed(&seventeen, ""), "refused\trules\t8\t17\n");
-    let twice = RULES.replace("1=@1:0", "1=@1:0,1=5");
-    assert_eq!(printed(&twice, CYCLE), "refused\trules\t5\t2\n");
+    let five = RULES.replace("1=@1:0", "1=@1:0,1=5,1=5,1=5,1=5");
+    assert_eq!(printed(&five, CYCLE), "refused\trules\t17\t2\n");
     let returned = CYCLE.replace("1500\t2\t7\t-\t-\t-", "1500\t2\t7\t-\t-\t-\r");
     assert_eq!(printed(RULES, &returned), "refused\tcycle\t2\t6\n");
     let unended = CYCLE.trim_end();

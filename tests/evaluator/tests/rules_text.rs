@@ -5,6 +5,8 @@ use evaluator::{read_rules, Comparison, Refusal, Rule};
 
 const GOOD: [&str; 7] = ["2", "1", "2", "0", "500", "-", "-"];
 const GOOD_LINE: &str = "2\t1\t2\t0\t500\t-\t-\n";
+/// A condition with one comparison too many.
+const FIVE: &str = "1=0,1=0,1=0,1=0,1=0";
 
 /// A good line with some fields replaced (fields count from 1).
 fn line(changes: &[(usize, &str)]) -> String {
@@ -259,7 +261,7 @@ fn every_refusal_of_the_17th_line_precedes_8() {
         (&[(1, "x")][..], 2),
         (&[(1, "17")], 3),
         (&[(6, "x")], 4),
-        (&[(7, "1=0,1=0")], 5),
+        (&[(7, FIVE)], 17),
         (&[(4, "500")], 6),
         (&[(1, "15"), (3, "1")], 16),
         (&[(1, "13"), (7, "1=0")], 16),
@@ -284,10 +286,11 @@ fn fields_are_judged_one_by_one() {
         (&[(5, "0"), (6, "x")], 3),
         (&[(6, "x"), (7, "1=2147483648")], 4),
         (&[(6, "1=2147483648"), (7, "x")], 3),
-        (&[(6, "1=0,1=0"), (7, "x")], 5),
+        (&[(6, FIVE), (7, "x")], 17),
+        (&[(6, "x"), (7, FIVE)], 4),
         (&[(4, "500"), (6, "x")], 4),
         (&[(4, "500"), (7, "1=2147483648")], 3),
-        (&[(4, "500"), (7, "1=0,1=0")], 5),
+        (&[(4, "500"), (7, FIVE)], 17),
     ] {
         assert_eq!(refused(line(changes)), (number, 1), "{changes:?}");
     }
@@ -338,7 +341,7 @@ fn a_misfit_follows_the_fields_and_the_window() {
         (&[(6, "1=@1:0")], 4),
         (&[(7, "x")], 4),
         (&[(7, "1=2147483648")], 3),
-        (&[(7, "1=0,1=0")], 5),
+        (&[(7, FIVE)], 17),
         (&[(4, "500")], 6),
         (&[(4, "500"), (7, "1=0")], 6),
         (&[], 16),

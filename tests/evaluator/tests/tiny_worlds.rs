@@ -6,7 +6,7 @@ use evaluator::random::Random;
 use evaluator::verdict::verdict;
 use evaluator::Operator::{self, *};
 use evaluator::Standing::{self, Idle, Open};
-use evaluator::{outcomes_in, standing_in, Comparison, Event, Rule, World};
+use evaluator::{outcomes_in, standing_in, Comparison, Event, Reference, Rule, World};
 use std::collections::BTreeSet;
 
 type Conditions = (Vec<Comparison>, Vec<Comparison>);
@@ -24,6 +24,14 @@ const TWO_READINGS: World = World {
     largest_time: 2,
     largest_activity: 2,
     least_reading: 0,
+    largest_reading: 1,
+};
+
+/// Times 0 and 1, activities 1 and 2, readings −1 to 1.
+const BANDS: World = World {
+    largest_time: 1,
+    largest_activity: 2,
+    least_reading: -1,
     largest_reading: 1,
 };
 
@@ -210,9 +218,70 @@ fn conditions_on_two_readings() -> Vec<Conditions> {
     ]
 }
 
+/// Every comparison of reading 1 with a value of the world, or with the activation's
+/// reading and what leads from one value to a neighbour.
+fn comparisons_of_one_reading() -> Vec<Comparison> {
+    let mut comparisons = Vec::new();
+    for operator in Operator::ALL {
+        comparisons.extend([-1, 0, 1].map(|k| constant(1, operator, k)));
+        comparisons.extend([-1, 0, 1].map(|k| sum(1, operator, 1, k)));
+    }
+    comparisons
+}
+
+/// Every choice of three of them, in one order; the same one may come again.
+fn triples(comparisons: &[Comparison]) -> Vec<Vec<Comparison>> {
+    let mut triples = Vec::new();
+    for (first, one) in comparisons.iter().enumerate() {
+        for (second, two) in comparisons.iter().enumerate().skip(first) {
+            let third = comparisons[second..].iter();
+            triples.extend(third.map(|three| vec![*one, *two, *three]));
+        }
+    }
+    triples
+}
+
+/// Of the responses and chain responses with such a correlation: every activation,
+/// and every continuation by at most two events.
+#[test]
+fn three_comparisons_of_one_reading() {
+    let triples = triples(&comparisons_of_one_reading());
+    assert_eq!(triples.len(), 38 * 37 * 36 / 6);
+    let all = all_events(&BANDS, 1);
+    for triple in triples {
+        for (code, length) in [(2, 2), (9, 1), (4, 1), (11, 1)] {
+            let rule = Rule::new(code, 1, 2, 0, None).with_correlation(triple.clone());
+            for first in all.iter().filter(|e| (e.time, e.activity) == (0, 1)) {
+                compare(&BANDS, &all, &rule, &[*first], 0, length);
+            }
+        }
+    }
+}
+
+/// The same with the comparisons of one reading in both conditions.
+#[test]
+fn two_comparisons_of_one_reading_in_both_conditions() {
+    let all = all_events(&BANDS, 1);
+    let constants: Vec<Comparison> = comparisons_of_one_reading()
+        .into_iter()
+        .filter(|c| matches!(c.reference, Reference::Constant(_)))
+        .collect();
+    for triple in triples(&constants) {
+        for code in [2, 3, 8] {
+            let rule = Rule::new(code, 1, 1, 0, None)
+                .with_activation_condition(triple[..2].to_vec())
+                .with_correlation(triple[1..].to_vec());
+            for first in all.iter().filter(|e| (e.time, e.activity) == (0, 1)) {
+                compare(&BANDS, &all, &rule, &[*first], 0, 2);
+            }
+        }
+    }
+}
+
 #[test]
 fn enumeration_has_every_event() {
     assert_eq!(all_events(&ONE_READING, 1).len(), 4 * 2 * 4);
+    assert_eq!(all_events(&BANDS, 1).len(), 2 * 2 * 4);
     assert_eq!(all_events(&TWO_READINGS, 2).len(), 3 * 2 * 9);
     assert_eq!(all_events(&THREE_ACTIVITIES, 0).len(), 4 * 3);
     let formed = |event: &Event| event.is_well_formed(&ONE_READING);

@@ -270,6 +270,11 @@ fn comparisons_are_written_in_their_order() {
     ];
     let expected = "2\t1\t2\t0\t-\t4=0\t2<@1:7,1>-1,4!@3:0\n";
     assert_eq!(with_conditions(&four[..1], &mixed), expected);
+    // A reading may come again, and so may a comparison.
+    let band = [(Greater, 5), (Less, 7), (NotEqual, 6), (Less, 7)];
+    let band = band.map(|(operator, k)| Comparison::with_constant(1, operator, k));
+    let expected = "2\t1\t2\t0\t-\t1>5,1<7,1!6,1<7\t1>5,1<7,1!6\n";
+    assert_eq!(with_conditions(&band, &band[..3]), expected);
 }
 
 /// Signed numbers at their ends and where a digit is added.

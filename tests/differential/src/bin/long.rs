@@ -8,8 +8,8 @@
 //! was compared, or the first difference. A difference names its kind and seed;
 //! `long THAT_SEED 1 THAT_KIND` shows it again.
 
-use differential::cases::{crowded, notebook, overall, printed, records, reported, reports};
-use differential::cases::{running, tally, texts, written};
+use differential::cases::{bands, crowded, notebook, overall, printed, records, reported};
+use differential::cases::{reports, running, tally, texts, written};
 use differential::compare::compare;
 use differential::counts::Counts;
 use differential::differ::Difference;
@@ -23,10 +23,12 @@ use std::time::Instant;
 type Kind = (&'static str, fn(u64) -> Case);
 
 /// Each kind of case that `probe` answers.
-const KINDS: [Kind; 19] = [
+const KINDS: [Kind; 21] = [
     (running::KIND, running::case),
     (crowded::KIND, crowded::case),
     (crowded::STALE, crowded::stale_case),
+    (bands::KIND, bands::case),
+    (bands::STALE, bands::stale_case),
     (overall::KIND, overall::case),
     (overall::STALE, overall::stale_case),
     (records::KIND, records::case),

@@ -160,11 +160,6 @@ fn condition_causes(changed: &mut Changed, slot: usize, correlation: bool) {
             });
         }
     }
-    for (first, second) in (1..used).flat_map(|later| (0..later).map(move |at| (at, later))) {
-        add(format!("{first} and {second} alike"), &|c| {
-            c.comparisons[second].reading = c.comparisons[first].reading
-        });
-    }
     if !correlation {
         add("an activation's reading".to_string(), &|c| {
             c.comparisons[1] = against(2, 1)
@@ -268,6 +263,9 @@ fn allowed_in_used_slots(changed: &mut Changed) {
             rule.correlation.count = 4;
             rule.correlation.comparisons[3] = against(3, 4);
         });
+        for correlation in [false, true] {
+            readings_compared_again(changed, slot, correlation);
+        }
     }
     for count in [0, 1] {
         changed.add(format!("rule count {count}"), |run| run.table.count = count);
@@ -285,6 +283,30 @@ fn allowed_in_used_slots(changed: &mut Changed) {
     changed.add("the last time".to_string(), |run| {
         run.events[2].time = u32::MAX
     });
+}
+
+/// Two comparisons on one reading, all of them, and four.
+fn readings_compared_again(changed: &mut Changed, slot: usize, correlation: bool) {
+    let used = if correlation { 3 } else { 2 };
+    let mut add = |name: String, change: &dyn Fn(&mut ConditionSlot)| {
+        let name = format!("{name}, correlation: {correlation},");
+        changed.add_rule(&name, slot, |rule| change(condition_of(rule, correlation)));
+    };
+    for (first, second) in (1..used).flat_map(|later| (0..later).map(move |at| (at, later))) {
+        add(format!("{first} and {second} on one reading"), &|c| {
+            c.comparisons[second].reading = c.comparisons[first].reading
+        });
+    }
+    for reading in 1..=4 {
+        add(format!("all on reading {reading}"), &|c| {
+            c.comparisons.iter_mut().for_each(|c| c.reading = reading)
+        });
+        add(format!("four on reading {reading}"), &|c| {
+            c.count = 4;
+            c.comparisons[used..].fill(constant(reading));
+            c.comparisons.iter_mut().for_each(|c| c.reading = reading);
+        });
+    }
 }
 
 /// The rules 13 to 16 of the activities 1 and 2, a response, and three events. If it

@@ -57,7 +57,7 @@ fn take(session: &mut Session, random: &mut Random, event: Event) -> Result<(), 
 
 /// All standings, all totals, and one standing asked by its numbers, which may
 /// be those of no rule or position.
-fn compare_all(session: &mut Session, random: &mut Random) {
+pub(super) fn compare_all(session: &mut Session, random: &mut Random) {
     session.compare_standings();
     session.all_totals();
     let rule = random.below(session.run.table.count as usize + 2) as u32;

@@ -31,8 +31,8 @@ pub fn misfit_texts() -> Vec<Vec<u8>> {
     for code in 12..=17 {
         for target in [1, 2, 65] {
             for window in ["0\t-", "5\t5", "0\t0"] {
-                for condition in ["-", "1g5", "1=@1:0", "x", "1=0,1=0"] {
-                    for correlation in ["-", "1=@1:0", "2=2147483648", "x", "3=0,3=1"] {
+                for condition in ["-", "1g5", "1=@1:0", "x", FIVE] {
+                    for correlation in ["-", "1=@1:0", "2=2147483648", "x", FIVE] {
                         let line =
                             format!("{code}\t1\t{target}\t{window}\t{condition}\t{correlation}\n");
                         texts.push(line.into_bytes());
@@ -41,12 +41,50 @@ pub fn misfit_texts() -> Vec<Vec<u8>> {
             }
         }
     }
+    let last = as_seventeenth(&texts);
+    [texts, last].concat()
+}
+
+/// A condition with one comparison too many.
+const FIVE: &str = "1=0,3=0,3=1,2g5,1=0";
+
+/// Some of the lines after 16 others.
+fn as_seventeenth(lines: &[Vec<u8>]) -> Vec<Vec<u8>> {
     let before = "16\t1\t2\t0\t-\t-\t-\n".repeat(16).into_bytes();
-    let last = texts
-        .iter()
-        .step_by(7)
-        .map(|line| [&before[..], line].concat());
-    let last: Vec<Vec<u8>> = last.collect();
+    let last = lines.iter().step_by(7);
+    last.map(|line| [&before[..], line].concat()).collect()
+}
+
+/// Conditions of three to seven comparisons, whole and with a fault in each place.
+fn long_conditions() -> Vec<String> {
+    let mut conditions = Vec::new();
+    for count in 3..=7 {
+        let whole = ["1>5", "1<7", "1!6", "2g-1", "1=0", "4l3", "2=8"][..count].to_vec();
+        conditions.push(whole.join(","));
+        for place in 0..count {
+            for odd in ["x", "", "-", "1=2147483648", "1=@1:0", "1=@1:-2147483649"] {
+                let mut parts = whole.clone();
+                parts[place] = odd;
+                conditions.push(parts.join(","));
+            }
+        }
+    }
+    conditions
+}
+
+/// Such conditions in either place, each alone, with a fault of the other condition
+/// and with the causes that come after 17, as a first line and as a 17th.
+pub fn fifth_texts() -> Vec<Vec<u8>> {
+    let mut texts = Vec::new();
+    for condition in long_conditions() {
+        for head in ["2\t1\t2\t0\t-", "2\t1\t2\t5\t5", "16\t1\t1\t0\t-"] {
+            for other in ["-", "x", "2=2147483648", FIVE] {
+                texts.push(format!("{head}\t{condition}\t{other}\n").into_bytes());
+                texts.push(format!("{head}\t{other}\t{condition}\n").into_bytes());
+            }
+        }
+    }
+    let last = as_seventeenth(&texts);
     [texts, last].concat()
 }
 
@@ -120,7 +158,10 @@ pub fn compare_rules_text(case: &mut Case, text: Vec<u8>) {
     let answer = Answer::plain(read.as_ref().map(|_| ()).map_err(|refusal| *refusal));
     case.ask(Command::ReadRules(text), Expected::Answer(answer));
     let expected = match read {
-        Ok(rules) => Some(Expected::Rules(rules)),
+        Ok(rules) => {
+            case.count_conditions(&rules);
+            Some(Expected::Rules(rules))
+        }
         Err(_) if case.seed.is_multiple_of(UNCHANGED_EVERY) => {
             let mut run = fresh_run();
             run.table = table;

@@ -1,5 +1,6 @@
 //! Mistakes in the rules about the cycle as such.
 
+use super::bands::each_alone_at_0;
 use super::targets::with_target;
 use super::{Mistake, State};
 use crate::command::kind_and_target;
@@ -9,7 +10,10 @@ use evaluator::{Event, Record, Refusal, Rule, Standing, Totals};
 impl State {
     /// The run that start gives.
     pub(super) fn started(&self) -> Result<Record, Refusal> {
-        let mut table = self.table.clone();
+        if self.refuses_bands(&self.table) {
+            return Err(Refusal::plain(11));
+        }
+        let mut table = self.judged_table(&self.table);
         if self.has(Mistake::AllowsCorrelation) {
             for rule in table.rules.iter_mut().filter(|rule| rule.code >= 13) {
                 rule.correlation.count = 0;
@@ -72,6 +76,7 @@ impl State {
                 with_target(right, last.unwrap_or(0) as u16)
             }
             Mistake::DecidesAbsenceAtClose if rule.code == 14 => Standing::Open,
+            Mistake::JudgesEachAlone => each_alone_at_0(rule, events, right),
             _ => right,
         }
     }
@@ -152,13 +157,13 @@ impl State {
         match (self.mistake, refused) {
             (Mistake::MisfitBeforeWindow, Some((6, Some(line)))) => {
                 let misfit = Err(Refusal::at(16, line));
-                let without_end = read_rules(&with_field(text, line, 5));
+                let without_end = read_rules(&with_field(text, line, 5, "-"));
                 Some(without_end)
                     .filter(|again| *again == misfit)
                     .unwrap_or(read)
             }
             (Mistake::AllowsCorrelation, Some((16, Some(line)))) => {
-                read_rules(&with_field(text, line, 7))
+                read_rules(&with_field(text, line, 7, "-"))
             }
             (Mistake::RefusesEqualUnder13, None) => {
                 let rules = read.expect("no refusal");
@@ -212,14 +217,16 @@ fn as_choice(rule: &Rule, events: &[Event]) -> Standing {
     standing_at_last(&choice, events, 0)
 }
 
-/// The text with `-` as a field (from 1) of a line (from 1).
-fn with_field(text: &[u8], line: usize, field: usize) -> Vec<u8> {
+/// The text with another content of a field (from 1) of a line (from 1) that has
+/// seven.
+pub(super) fn with_field(text: &[u8], line: usize, field: usize, content: &str) -> Vec<u8> {
     let lines = text.split_inclusive(|byte| *byte == b'\n');
     let mut lines: Vec<Vec<u8>> = lines.map(<[u8]>::to_vec).collect();
-    let end = if field == 7 { "-\n" } else { "-" };
+    let end = if field == 7 { "\n" } else { "" };
+    let content = format!("{content}{end}");
     let fields = lines[line - 1].split(|byte| *byte == b'\t');
     let mut fields: Vec<&[u8]> = fields.collect();
-    fields[field - 1] = end.as_bytes();
+    fields[field - 1] = content.as_bytes();
     lines[line - 1] = fields.join(&b'\t');
     lines.concat()
 }
