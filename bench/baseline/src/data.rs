@@ -19,10 +19,9 @@ fn line(fields: &[String]) -> String {
     fields.join("\t") + "\n"
 }
 
-/// 16 rules under which every event is an activation that stays open: the last of the comparisons
-/// never holds.
-fn worst_rules(comparisons: usize) -> String {
-    let correlation = ["1=@1:1", "", "", "1=@1:0,2=@2:0,3=@3:0,4=@4:1"][comparisons - 1];
+/// 16 rules under which every event is an activation that stays open: of the comparisons, the last
+/// alone does not hold in the cycle below.
+fn worst_rules(correlation: &str) -> String {
     format!("1\t1\t1\t0\t-\t-\t{correlation}\n").repeat(16)
 }
 
@@ -138,8 +137,15 @@ fn many_cycles(x: &mut Numbers) -> Vec<String> {
 fn texts(name: &str) -> (String, Vec<String>) {
     let x = &mut Numbers(5);
     match name {
-        "worst" => (worst_rules(1), vec![worst_cycle()]),
-        "worst4" => (worst_rules(4), vec![worst_cycle()]),
+        "worst" => (worst_rules("1=@1:1"), vec![worst_cycle()]),
+        "worst4" => (
+            worst_rules("1=@1:0,2=@2:0,3=@3:0,4=@4:1"),
+            vec![worst_cycle()],
+        ),
+        "band" => (
+            worst_rules("1g@1:-9,1l@1:9,1!@1:3,1=@1:1"),
+            vec![worst_cycle()],
+        ),
         "typical" => (rules(x, 16), vec![cycle(x, 256)]),
         "overall" => (overall_rules() + &rules(x, 12), vec![cycle(x, 256)]),
         "blank" => (String::new(), vec![blank_cycle(x)]),
