@@ -1,14 +1,15 @@
--- Document 01's limits, by name.
+-- The limits of documents 01 and 02, by name.
 use Prim.Native.Nat.{ℕ}
 
 -- "activity 1 to 64"
 abbrev pub lastActivity : ℕ
 lastActivity = 64
 
--- the readings of an event, and the comparisons of a condition
+-- the readings of an event
 abbrev pub readings : ℕ
 readings = 4
 
+-- "up to four comparisons in a condition, on any readings" (document 02, Card 6)
 abbrev pub mostComparisons : ℕ
 mostComparisons = 4
 

@@ -210,7 +210,7 @@ module _ (rules cycle : List ℕ) where
 
 -- ---- how much is printed
 
--- numbers of two digits
+-- numbers of at most two digits
 two-digits : (ns : List ℕ) (n : ℕ) → all (λ m. leb m 99) ns ≡ true → any (eqb n) ns ≡ true → n ≤ 99
 unfolding all any
 two-digits [] n h e = absurd (true≢false (sym e))

@@ -70,7 +70,7 @@ unfoldable pub comparisonForm : Bool → List ℕ → Bool
 comparisonForm correlation s =
     readingDigit (getD s 0 0) && isOperator (getD s 1 0) && referenceForm correlation (drop 2 s)
 
--- "comparison by comparison" 4, 3, 17; so many stand before it
+-- "comparison by comparison" 4, 3, 17; `before` is how many stand before it
 unfoldable pub comparisonCauses : Bool → ℕ → List (List ℕ) → List Cause
 comparisonCauses correlation before [] = []
 comparisonCauses correlation before (s ∷ more) =

@@ -6,6 +6,7 @@ ghost use Rattle.declare.specs.Conditions.{comparisonsOf};
 ghost use Rattle.declare.specs.Rules.{isReading, validReference, validComparison, validCondition, validEnd, validWindow, validHead, fitsTemplate, validRule};
 use crate::event::in_range;
 use crate::event::is_activity;
+use declare::COMPARISONS;
 use declare::Comparison;
 use declare::Condition;
 use declare::End;
@@ -59,7 +60,7 @@ fn valid_condition(correlation: bool, c: Condition) -> bool
     if c.count < 1 {
         return true;
     }
-    (c.count <= 4) & valid_comparisons(correlation, c)
+    (c.count <= COMPARISONS) & valid_comparisons(correlation, c)
 }
 
 // Whether b, the end, is above a, the start.

@@ -9,6 +9,7 @@ ghost use Rattle.rule_text.specs.Conditions.{conditionOf, comparisonsFie
 ghost use Rattle.rule_text.specs.Reads.{conditionRead};
 use crate::comparison::ComparisonAnswer;
 use crate::comparison::comparison;
+use declare::COMPARISONS;
 use declare::Comparison;
 use declare::Condition;
 use declare::Refusal;
@@ -67,7 +68,7 @@ fn comparisons(field: &[u8], correlation: bool) -> ConditionAnswer
         match comparison(&field[at..], correlation) {
             ComparisonAnswer::NotCompared(cause) => return ConditionAnswer::NoComparisons(cause),
             ComparisonAnswer::Compared(next, length) => {
-                if 4 <= condition.count {
+                if COMPARISONS <= condition.count {
                     return ConditionAnswer::NoComparisons(Refusal::TooManyComparisons);
                 }
                 condition = with(condition, next);
