@@ -34,20 +34,20 @@ fn every_template_is_shown(counts: &Counts, least: usize) {
 
 #[test]
 fn random_runs() {
-    let counts = agree(&Probe::find(), (1_000_000..1_002_400).map(case));
-    assert_eq!(counts.cases, 2400);
-    assert!(counts.answered('e', 0) >= 20_000);
-    assert!(counts.answered('e', 3) >= 1500);
-    assert!(counts.answered('e', 7) >= 1000);
-    assert_eq!(counts.answered('e', 9), 2 * 2400);
+    let counts = agree(&Probe::find(), (1_000_000..1_004_800).map(case));
+    assert_eq!(counts.cases, 4800);
+    assert!(counts.answered('e', 0) >= 40_000);
+    assert!(counts.answered('e', 3) >= 3000);
+    assert!(counts.answered('e', 7) >= 2000);
+    assert_eq!(counts.answered('e', 9), 2 * 4800);
     assert_eq!(counts.numbers('e'), [0, 3, 7, 9]);
-    assert_eq!([0, 9].map(|number| counts.answered('x', number)), [2400; 2]);
-    assert!(counts.answered('g', 0) >= 10_000 && counts.answered('g', 10) >= 1000);
-    assert!(counts.answered('o', 0) >= 50_000);
+    assert_eq!([0, 9].map(|number| counts.answered('x', number)), [4800; 2]);
+    assert!(counts.answered('g', 0) >= 20_000 && counts.answered('g', 10) >= 2000);
+    assert!(counts.answered('o', 0) >= 100_000);
     assert_eq!(counts.numbers('o'), [0]);
-    assert!(counts.standings() >= 1_000_000);
-    assert_eq!(counts.dumps('D'), 2400);
-    every_template_is_shown(&counts, 300);
+    assert!(counts.standings() >= 2_000_000);
+    assert_eq!(counts.dumps('D'), 4800);
+    every_template_is_shown(&counts, 500);
 }
 
 #[test]
