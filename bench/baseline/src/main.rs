@@ -87,18 +87,18 @@ fn judged(table: &Table, events: &[Event]) -> Run {
     run
 }
 
-/// Each turn begins with a copy of the run, so that the same event can be taken again; `k` makes
-/// the copy only.
+/// Each turn begins with a copy of the run, so that the same event can be taken again; `l` is a
+/// notice of its time, `x` closes, and `k` makes the copy only.
 fn takes(letter: u8, run: &Run, event: Event, turns: usize, copies: &mut Copies) -> u64 {
     let mut sum = 0;
     for _ in 0..turns {
         copies.make();
         let mut next = *black_box(run);
         if letter != b'k' {
-            let answer = if letter == b't' {
-                next.take(event)
-            } else {
-                next.close()
+            let answer = match letter {
+                b't' => next.take(event),
+                b'l' => next.notice(event.time.into()),
+                _ => next.close(),
             };
             sum = joined(sum, of_answer(answer));
         }
@@ -191,7 +191,7 @@ fn cycle_calls(letter: u8, turns: usize, rules: &[u8], cycle: &[u8], copies: &mu
     let (last, before) = events.split_last().unwrap();
     match letter {
         b't' | b'k' => takes(letter, &judged(&table, before), *last, turns, copies),
-        b'x' => takes(letter, &judged(&table, events), *last, turns, copies),
+        b'x' | b'l' => takes(letter, &judged(&table, events), *last, turns, copies),
         b'w' => {
             let run = judged(&table, events);
             written(turns, |out| write::write_cycle(black_box(&run), out))

@@ -1,4 +1,5 @@
-//! The running cycle: the record check, and the calls start, take, close, standing and totals.
+//! The running cycle: the record check, and the calls start, take, notice, close, standing and
+//! totals.
 use crate::judge::{judge_cells, judge_overall};
 use crate::types::*;
 
@@ -106,6 +107,7 @@ impl Run {
             cells: [Standing::Idle; 4096],
             overall,
             totals: [NO_TOTALS; 16],
+            clock: 0,
         };
         run.begin_totals();
         Ok(run)
@@ -134,6 +136,12 @@ impl Run {
         judge_cells(true, rules, events, horizon, cells, totals);
     }
 
+    /// The earliest time that a further event may have.
+    fn horizon(&self) -> u32 {
+        let last = self.events[..self.count].last();
+        last.map_or(self.clock, |e| e.time.max(self.clock))
+    }
+
     #[inline(never)]
     pub fn take(&mut self, event: Event) -> Result<(), Cause> {
         if !valid_run(self) {
@@ -145,16 +153,33 @@ impl Run {
         if !is_activity(event.activity) {
             return Err(3);
         }
-        let n = self.count;
-        if n > 0 && event.time < self.events[n - 1].time {
+        if event.time < self.horizon() {
             return Err(7);
         }
+        let n = self.count;
         if n >= 256 {
             return Err(8);
         }
         self.events[n] = event;
         self.count = n + 1;
-        self.judge(event.time);
+        self.judge(self.horizon());
+        Ok(())
+    }
+
+    #[inline(never)]
+    pub fn notice(&mut self, time: u64) -> Result<(), Cause> {
+        if !valid_run(self) {
+            return Err(11);
+        }
+        if self.closed {
+            return Err(9);
+        }
+        let time = u32::try_from(time).map_err(|_| 3)?;
+        if time < self.horizon() {
+            return Err(7);
+        }
+        self.clock = time;
+        self.judge(self.horizon());
         Ok(())
     }
 

@@ -285,6 +285,7 @@ pub fn read_notebook(rules: &[u8], cycle: &[u8]) -> Result<Run, (Which, Cause, u
         cells: [Standing::Idle; 4096],
         overall: [Standing::Idle; 16],
         totals: [NO_TOTALS; 16],
+        clock: 0,
     };
     judge_overall(false, table.used(), events, 0, &mut run.overall);
     run.begin_totals();

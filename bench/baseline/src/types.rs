@@ -100,6 +100,8 @@ pub struct Run {
     /// Position 0 of each rule.
     pub overall: [Standing; 16],
     pub totals: [Totals; 16],
+    /// The time of the last clock notice.
+    pub clock: u32,
 }
 
 pub const SLOT: Event = Event {

@@ -9,6 +9,7 @@ use declare::numbers::less_one;
 use judge::cells::judge_cells;
 use judge::overall::judge_overall;
 use run::Run;
+use run::Step;
 use run::start::new_run;
 use standings::totals::zero_totals;
 
@@ -47,21 +48,19 @@ fn judged(table: Table, events: [Event; EVENTS], n: usize) -> Run {
     run
 }
 
-fn takes(run: Run, event: Event, turns: usize) -> u64 {
-    let mut sum: u64 = 0;
-    for i in 0..turns {
-        let step = run.take(event);
-        let outcome = step.outcome;
-        sum = weight::joined(sum, weight::of_outcome(outcome));
-        sum = weight::joined(sum, weight::of_run(step.run));
+// t an event is taken, l a clock notice comes at its time, x the run is closed.
+fn step(letter: u8, run: Run, event: Event) -> Step {
+    match letter {
+        b't' => run.take(event),
+        b'l' => run.notice(event.time as u64),
+        _ => run.close(),
     }
-    sum
 }
 
-fn closes(run: Run, turns: usize) -> u64 {
+fn steps(letter: u8, run: Run, event: Event, turns: usize) -> u64 {
     let mut sum: u64 = 0;
     for i in 0..turns {
-        let step = run.close();
+        let step = step(letter, run, event);
         let outcome = step.outcome;
         sum = weight::joined(sum, weight::of_outcome(outcome));
         sum = weight::joined(sum, weight::of_run(step.run));
@@ -101,22 +100,26 @@ fn event_at(events: [Event; EVENTS], p: usize) -> Event {
     if p < EVENTS { events[p] } else { events[0] }
 }
 
+// What is asked of one run.
+fn asked(letter: u8, run: Run, event: Event, turns: usize) -> u64 {
+    match letter {
+        b't' | b'l' | b'x' => steps(letter, run, event, turns),
+        b'w' => written::cycles(run, turns),
+        b's' => standings(run, turns),
+        _ => totals(run, turns),
+    }
+}
+
 pub fn measured(letter: u8, turns: usize, rules: &[u8], cycle: &[u8]) -> u64 {
     let read = cycle_text::read_cycle(cycle);
     let events = read.events;
     let n = read.count;
     let table = rule_text::read_rules(rules).table;
+    let last = event_at(events, less_one(n));
     match letter {
-        b't' => takes(
-            judged(table, events, less_one(n)),
-            event_at(events, less_one(n)),
-            turns,
-        ),
         b'c' => cycles(table, events, n, turns),
-        b'x' => closes(judged(table, events, n), turns),
-        b'w' => written::cycles(judged(table, events, n), turns),
         b'p' => written::rules(table, turns),
-        b's' => standings(judged(table, events, n), turns),
-        _ => totals(judged(table, events, n), turns),
+        b't' => asked(letter, judged(table, events, less_one(n)), last, turns),
+        _ => asked(letter, judged(table, events, n), last, turns),
     }
 }

@@ -1,31 +1,32 @@
--- What taking an event, or closing, does to the standing of a position.
+-- What a take, a notice or closing does to the standing of a position.
 --
 -- Closing: an open activation has no eligible event, so its verdict is that of target 0. Taking:
 -- what can come after more events could come before them, since the event that shows it continues
--- both; so a decided standing stays decided, with its target.
+-- both; so a decided standing stays decided, with its target. A notice adds no event and moves the
+-- horizon.
 use mathlib.Core.Path.{_≡_, refl, sym, _∙_, ap}
 use mathlib.Core.Bool.{Bool, true, false, cond, _&&_, true≢false, false≢true}
-use mathlib.Core.List.{List, [], _∷_, _++_, append-nil, append-assoc}
-use Prim.Native.Nat.{ℕ, zero, suc, _≤_, _<_}
+use mathlib.Core.List.{List, [], _∷_, _++_, map, append-nil, append-assoc}
+use Prim.Native.Nat.{ℕ, zero, suc, max, _≤_, _<_}
 use native.Mathlib.Omega.{arith}
-use borrow.Author.Tests.{eqb-true, eqb-false, lt-ltb, ltb-true}
+use borrow.Author.Tests.{eqb-true, eqb-false, le-leb, leb-true, lt-ltb, ltb-true}
 use lib.Dec.{eqb, leb, ltb}
 use lib.ListN.{length, length-append}
 use Rattle.declare.specs.Types.{Event, Rule, Standing, Idle, Open, Fulfilled, Violated}
 use Rattle.declare.specs.Lists.{all}
-use Rattle.declare.specs.Events.{wellFormed, nonFallingFrom, nonFalling, lastFrom, lastTime}
+use Rattle.declare.specs.Events.{latest, wellFormed, nonFallingFrom, nonFalling, lastFrom, lastTime}
 use Rattle.declare.specs.Rules.{validRule}
 use Rattle.declare.specs.Suits.{activationAt}
 use Rattle.declare.specs.Templates.{polarityOf}
 use Rattle.declare.specs.Verdicts.{eligible, target, decided, decision, verdict}
-use Rattle.declare.specs.Continuations.{horizon, continuation}
+use Rattle.declare.specs.Continuations.{Course, horizon, continuation}
 use Rattle.declare.specs.Reachability.{canCome, undecided, standing}
 use Rattle.declare.specs.Standings.{isOpen}
 use Rattle.declare.specs.Answers.{_>>_, require, isAccepted}
-use Rattle.declare.specs.Steps.{carried, closing, closed, Cycle, admits, isTaken, takenAfter, taken}
+use Rattle.declare.specs.Steps.{carried, closing, closed, Cycle, Call, takes, notices, admits, isAdmitted, courseWith, courseAfter, course, taken}
 use Rattle.declare.specs.Limits.{mostEvents}
 use Rattle.declare.proofs.Booleans.{and-left, and-right, and₂, both, fails, all-append}
-use Rattle.declare.proofs.Lists.{all-parts}
+use Rattle.declare.proofs.Lists.{all-parts, last-more}
 use Rattle.declare.proofs.Extension.{activation-same, non-falling-parts, later-start}
 use Rattle.declare.proofs.Arrival.{continuation-parts, comes, coming, coming-continues, coming-eligible}
 use Rattle.declare.proofs.Zero.{closing-zero, closing-event, undecided-event, decision-event}
@@ -130,78 +131,136 @@ module _ (r : Rule) (es added : List Event) (h later i : ℕ) (valid : validRule
       go (Fulfilled j) e = sym (standing-kept (ap isOpen e) ∙ e)
       go (Violated j) e = sym (standing-kept (ap isOpen e) ∙ e)
 
--- ---- the events that are taken
+-- ---- admitted calls
 
 pub empty-cycle : Cycle []
 unfolding all nonFalling nonFallingFrom
 empty-cycle = record { formed = refl; order = refl; most = omega arith }
 
--- nothing is a cause of 3, 7 or 8
-pub admitted : (n h : ℕ) (e : Event) → isAccepted (admits n h e) ≡ true → (wellFormed e ≡ true) × (leb h (e .time) ≡ true) × (ltb n mostEvents ≡ true)
-unfolding isAccepted admits _>>_ require
-admitted n h e = go (wellFormed e) (leb h (e .time)) (ltb n mostEvents)
-  where
-    go : (w t n : Bool) → isAccepted (require w 3 >> (require t 7 >> require n 8)) ≡ true → (w ≡ true) × (t ≡ true) × (n ≡ true)
-    go true true true h = (refl, refl, refl)
-    go true true false h = absurd (false≢true h)
-    go true false n h = absurd (false≢true h)
-    go false t n h = absurd (false≢true h)
+module _ (n h : ℕ) where
+  -- nothing is a cause of 3, 7 or 8
+  pub take-admitted : (e : Event) → isAccepted (admits n h (takes e)) ≡ true → (wellFormed e ≡ true) × (leb h (e .time) ≡ true) × (ltb n mostEvents ≡ true)
+  unfolding isAccepted admits _>>_ require
+  take-admitted e = go (wellFormed e) (leb h (e .time)) (ltb n mostEvents)
+    where
+      go : (w t n : Bool) → isAccepted (require w 3 >> (require t 7 >> require n 8)) ≡ true → (w ≡ true) × (t ≡ true) × (n ≡ true)
+      go true true true h = (refl, refl, refl)
+      go true true false h = absurd (false≢true h)
+      go true false n h = absurd (false≢true h)
+      go false t n h = absurd (false≢true h)
 
-admits-all : (n h : ℕ) (e : Event) → wellFormed e ≡ true → leb h (e .time) ≡ true → ltb n mostEvents ≡ true → isAccepted (admits n h e) ≡ true
-unfolding isAccepted admits _>>_ require
-admits-all n h e w t r = rw (w, t, r)
+  -- nor of 3 or 7
+  pub notice-admitted : (t : ℕ) → isAccepted (admits n h (notices t)) ≡ true → (leb t latest ≡ true) × (leb h t ≡ true)
+  unfolding isAccepted admits _>>_ require
+  notice-admitted t = go (leb t latest) (leb h t)
+    where
+      go : (w t : Bool) → isAccepted (require w 3 >> require t 7) ≡ true → (w ≡ true) × (t ≡ true)
+      go true true h = (refl, refl)
+      go true false h = absurd (false≢true h)
+      go false t h = absurd (false≢true h)
 
-pub taken-parts : (es : List Event) (e : Event) → isTaken es e ≡ true → (wellFormed e ≡ true) × (leb (horizon es) (e .time) ≡ true) × (ltb (length es) mostEvents ≡ true)
-unfolding isTaken
-taken-parts es e h = admitted (length es) (horizon es) e h
+  admits-all : (e : Event) → wellFormed e ≡ true → leb h (e .time) ≡ true → ltb n mostEvents ≡ true → isAccepted (admits n h (takes e)) ≡ true
+  unfolding isAccepted admits _>>_ require
+  admits-all e w t r = rw (w, t, r)
 
-pub taken-continues : (es : List Event) (e : Event) → isTaken es e ≡ true → continuation (horizon es) (e ∷ []) ≡ true
-unfolding continuation nonFallingFrom all
-taken-continues es e h = let p = taken-parts es e h in both (both (p .1) refl) (both (p .0) refl)
+-- ---- from one course to the next
 
-pub cycle-taken : (es : List Event) (e : Event) → Cycle es → isTaken es e ≡ true → Cycle (es ++ e ∷ [])
-unfolding all
-cycle-taken es e c h =
-    let p = taken-parts es e h in
-    let l : length es < mostEvents = ltb-true (length es) mostEvents (p .2) in
+pub last-horizon : (c : Course) → lastTime (c .events) ≤ horizon c
+unfolding horizon
+last-horizon c = omega arith
+
+-- the events that a call adds
+unfoldable pub addedBy : Call → List Event
+addedBy (takes e) = e ∷ []
+addedBy (notices t) = []
+
+-- an admitted call adds a continuation, after which nothing comes before the new horizon
+pub record GoesOn (c next : Course) (added : List Event) : Type 0 where
+  pub events : next .events ≡ c .events ++ added
+  pub continues : continuation (horizon c) added ≡ true
+  pub later : lastFrom (horizon c) added ≤ horizon next
+  pub cycle : Cycle (next .events)
+
+taken-later : (c : Course) (e : Event) → lastFrom (horizon c) (e ∷ []) ≤ horizon (record { events = c .events ++ e ∷ []; clock = c .clock })
+unfolding lastFrom horizon
+taken-later c e = omega (arith, last-more (c .events) e)
+
+noticed-later : (c : Course) (t : ℕ) → horizon c ≤ t → lastFrom (horizon c) [] ≤ horizon (record { events = c .events; clock = t })
+unfolding lastFrom horizon
+noticed-later c t past = omega arith
+
+pub goes-on : (c : Course) (call : Call) → Cycle (c .events) → isAdmitted c call ≡ true → GoesOn c (courseWith c call) (addedBy call)
+unfolding isAdmitted courseWith addedBy continuation nonFallingFrom all
+goes-on c (takes e) cycle h =
+    let p = take-admitted (length (c .events)) (horizon c) e h in
+    let more : continuation (horizon c) (e ∷ []) ≡ true = both (both (p .1) refl) (both (p .0) refl) in
+    let few : length (c .events) < mostEvents = ltb-true (length (c .events)) mostEvents (p .2) in
     record {
-      formed = all-append wellFormed es (e ∷ []) (c .formed) (both (p .0) refl);
-      order = longer-cycle es (e ∷ []) (horizon es) (c .order) (unfold horizon in omega arith) (taken-continues es e h);
-      most = simp length-append (omega arith);
+      events = refl;
+      continues = more;
+      later = taken-later c e;
+      cycle = record {
+        formed = all-append wellFormed (c .events) (e ∷ []) (cycle .formed) (both (p .0) refl);
+        order = longer-cycle (c .events) (e ∷ []) (horizon c) (cycle .order) (last-horizon c) more;
+        most = simp length-append (omega arith);
+      };
+    }
+goes-on c (notices t) cycle h =
+    let p = notice-admitted (length (c .events)) (horizon c) t h in
+    let past : horizon c ≤ t = leb-true (horizon c) t (p .1) in
+    record {
+      events = sym (append-nil (c .events));
+      continues = refl;
+      later = noticed-later c t past;
+      cycle = cycle;
     }
 
-pub cycle-after : (es offered : List Event) → Cycle es → Cycle (takenAfter es offered)
-unfolding takenAfter
-cycle-after es [] c = c
-cycle-after es (e ∷ offered) c = cycle-after (cond (isTaken es e) (es ++ e ∷ []) es) offered (go (isTaken es e) refl)
+-- so carried over or judged anew, a standing is what the next course says
+pub carried-next : (r : Rule) (c next : Course) (added : List Event) (i : ℕ) → validRule r ≡ true → Cycle (c .events) → GoesOn c next added → i ≤ length (c .events) → carried (standing r (c .events) (horizon c) i) (standing r (next .events) (horizon next) i) ≡ standing r (next .events) (horizon next) i
+carried-next r c next added i valid cycle g high =
+    let now : standing r (next .events) (horizon next) i ≡ standing r (c .events ++ added) (horizon next) i =
+    ap (λ (l : List Event). standing r l (horizon next) i) (g .events) in
+    rw now
+    (carried-standing r (c .events) added (horizon c) (horizon next) i valid (cycle .order) (last-horizon c) (g .later) high (g .continues))
+
+-- ---- the events that are taken
+
+pub cycle-after : (c : Course) (calls : List Call) → Cycle (c .events) → Cycle (courseAfter c calls .events)
+unfolding courseAfter
+cycle-after c [] cycle = cycle
+cycle-after c (call ∷ calls) cycle = cycle-after (cond (isAdmitted c call) (courseWith c call) c) calls (go (isAdmitted c call) refl)
   where
-    go : (t : Bool) → isTaken es e ≡ t → Cycle (cond t (es ++ e ∷ []) es)
-    go true q = cycle-taken es e c q
-    go false q = c
+    go : (t : Bool) → isAdmitted c call ≡ t → Cycle (cond t (courseWith c call) c .events)
+    go true q = goes-on c call cycle q .cycle
+    go false q = cycle
 
-pub cycle-of-taken : (offered : List Event) → Cycle (taken offered)
-unfolding taken
-cycle-of-taken offered = cycle-after [] offered empty-cycle
+pub cycle-of-taken : (calls : List Call) → Cycle (taken calls)
+unfolding course
+cycle-of-taken calls = cycle-after _ calls empty-cycle
 
--- ---- all events of a cycle are taken
+-- ---- all events of a cycle are taken, if no notice comes
 
-taken-next : (es : List Event) (e : Event) (more : List Event) → Cycle (es ++ e ∷ more) → isTaken es e ≡ true
-unfolding isTaken horizon nonFalling lastTime
+-- the course without a notice
+abbrev unnoticed : List Event → Course
+unnoticed es = record { events = es; clock = 0 }
+
+taken-next : (es : List Event) (e : Event) (more : List Event) → Cycle (es ++ e ∷ more) → isAdmitted (unnoticed es) (takes e) ≡ true
+unfolding isAdmitted horizon nonFalling lastTime
 taken-next es e more s =
     let formed : (wellFormed e && all wellFormed more) ≡ true = unfold all in and-right (all wellFormed es) (all wellFormed (e ∷ more)) (sym (all-parts wellFormed es (e ∷ more)) ∙ s .formed) in
     let order : (leb (lastFrom 0 es) (e .time) && nonFallingFrom (e .time) more) ≡ true = unfold nonFallingFrom in and-right (nonFallingFrom 0 es) (nonFallingFrom (lastFrom 0 es) (e ∷ more)) (sym (non-falling-parts 0 es (e ∷ more)) ∙ s .order) in
-    admits-all (length es) (lastFrom 0 es) e (and-left (wellFormed e) (all wellFormed more) formed)
-    (and-left (leb (lastFrom 0 es) (e .time)) (nonFallingFrom (e .time) more) order)
+    let past : lastFrom 0 es ≤ e .time = leb-true (lastFrom 0 es) (e .time) (and-left (leb (lastFrom 0 es) (e .time)) (nonFallingFrom (e .time) more) order) in
+    admits-all (length es) (max (lastFrom 0 es) 0) e (and-left (wellFormed e) (all wellFormed more) formed) (le-leb (max (lastFrom 0 es) 0) (e .time) (omega arith))
     (lt-ltb (length es) mostEvents (omega (arith, length-append es (e ∷ more), s .most)))
 
-taken-all : (es more : List Event) → Cycle (es ++ more) → takenAfter es more ≡ es ++ more
-unfolding takenAfter
-taken-all es [] s = sym (append-nil es)
+taken-all : (es more : List Event) → Cycle (es ++ more) → courseAfter (unnoticed es) (map takes more) ≡ unnoticed (es ++ more)
+unfolding courseAfter courseWith
+taken-all es [] s = ap unnoticed (sym (append-nil es))
 taken-all es (e ∷ more) s =
-    ap (λ (b : Bool). takenAfter (cond b (es ++ e ∷ []) es) more) (taken-next es e more s)
+    ap (λ (b : Bool). courseAfter (cond b (unnoticed (es ++ e ∷ [])) (unnoticed es)) (map takes more)) (taken-next es e more s)
     ∙ taken-all (es ++ e ∷ []) more (rw (append-assoc es (e ∷ []) more) s)
-    ∙ append-assoc es (e ∷ []) more
+    ∙ ap unnoticed (append-assoc es (e ∷ []) more)
 
-pub taken-cycle : (es : List Event) → Cycle es → taken es ≡ es
-unfolding taken
-taken-cycle es s = taken-all [] es s
+pub course-of-cycle : (es : List Event) → Cycle es → course (map takes es) ≡ record { events = es; clock = 0 }
+unfolding course
+course-of-cycle es s = taken-all [] es s

@@ -1,13 +1,13 @@
 -- The definitions compute what document 01's sentences say.
 use mathlib.Core.Path.{_≡_, refl, sym, subst, _∙_, ap}
 use mathlib.Core.Logic.{_↔_}
-use mathlib.Core.Bool.{Bool, true, false, not, cond, _&&_, true≢false, false≢true}
+use mathlib.Core.Bool.{Bool, true, false, not, cond, _&&_, and-false, true≢false, false≢true}
 use mathlib.Core.List.{List, [], _∷_, _++_}
-use Prim.Native.Nat.{ℕ, zero, suc, _+_, _-_, _≤_, _<_}
+use Prim.Native.Nat.{ℕ, zero, suc, _+_, _-_, max, _≤_, _<_}
 use native.Mathlib.Omega.{arith}
 use native.Mathlib.Nat.{not-suc-le-zero, le-of-suc-le-suc}
 use native.Mathlib.Decide.{ℕ-discrete}
-use borrow.Author.Tests.{ltb-true, leb-true, eqb-true, lt-ltb, le-leb, eq-eqb, ne-eqb, not-true}
+use borrow.Author.Tests.{ltb-true, leb-true, leb-false, eqb-true, lt-ltb, lt-leb, le-leb, eq-eqb, ne-eqb, not-true}
 use lib.Dec.{leb, ltb, eqb}
 use lib.ListN.{length, getD}
 use Rattle.declare.specs.Types.{Event, Test, Reach, Anywhere, AtOrAfter, AlternateAfter, Next, AtOrBefore, AlternateBefore, Previous, Polarity, Positive, Negative, Rule, Idle, Open}
@@ -18,7 +18,7 @@ use Rattle.declare.specs.Rules.{isReading}
 use Rattle.declare.specs.Suits.{activationAt, beforeEnd, within, between, correlates, suits}
 use Rattle.declare.specs.Templates.{templates, templateOf, inReach, reachOf, polarityOf}
 use Rattle.declare.specs.Verdicts.{target, decided, formulaOf, fulfilledIf, decision, verdict}
-use Rattle.declare.specs.Continuations.{horizon, continuation}
+use Rattle.declare.specs.Continuations.{Course, horizon, continuation}
 use Rattle.declare.specs.Reachability.{satisfiable, canCome, standing}
 use Rattle.declare.specs.Standings.{isFulfilled, isViolated}
 use Rattle.declare.specs.Words.{NeverFall, Suits, NoActivationBetween, Eligible, Twelve, SomeEligible, NoneEligible, MayName, targetIn, unnamed, Unmoved, Judged, Satisfiable, Words}
@@ -280,12 +280,28 @@ module _ (r : Rule) (es : List Event) (i : ℕ) where
 
 -- ---- continuations
 
-continued : (es added : List Event) → nonFalling es ≡ true → continuation (horizon es) added ≡ (nonFalling (es ++ added) && all wellFormed added)
+-- not before the later of two times is before neither
+later-of : (s t : ℕ) (added : List Event) → nonFallingFrom (max s t) added ≡ (nonFallingFrom s added && nonFallingFrom t added)
+unfolding nonFallingFrom
+later-of s t [] = refl
+later-of s t (e ∷ added) = go (leb s (e .time)) refl (leb t (e .time)) refl (nonFallingFrom (e .time) added)
+  where
+    go : (a : Bool) → leb s (e .time) ≡ a → (b : Bool) → leb t (e .time) ≡ b → (n : Bool) → (leb (max s t) (e .time) && n) ≡ ((a && n) && (b && n))
+    go true p true q n = rw (le-leb (max s t) (e .time) (omega (arith, leb-true s (e .time) p, leb-true t (e .time) q))) (sym (twice n))
+      where
+        twice : (n : Bool) → (n && n) ≡ n
+        twice true = refl
+        twice false = refl
+    go true p false q n = rw (lt-leb (max s t) (e .time) (omega (arith, leb-false t (e .time) q))) (sym (and-false n))
+    go false p b q n = rw (lt-leb (max s t) (e .time) (omega (arith, leb-false s (e .time) p))) refl
+
+continued : (c : Course) (added : List Event) → nonFalling (c .events) ≡ true → continuation (horizon c) added ≡ (nonFalling (c .events ++ added) && nonFallingFrom (c .clock) added && all wellFormed added)
 unfolding continuation horizon nonFalling lastTime
-continued es added falls =
-    let parts : nonFallingFrom 0 (es ++ added) ≡ nonFallingFrom (lastFrom 0 es) added =
-    non-falling-parts 0 es added ∙ ap (λ (t : Bool). t && nonFallingFrom (lastFrom 0 es) added) falls in
-    ap (λ (t : Bool). t && all wellFormed added) (sym parts)
+continued c added falls =
+    let parts : nonFallingFrom 0 (c .events ++ added) ≡ nonFallingFrom (lastFrom 0 (c .events)) added =
+    non-falling-parts 0 (c .events) added ∙ ap (λ (t : Bool). t && nonFallingFrom (lastFrom 0 (c .events)) added) falls in
+    ap (λ (t : Bool). t && all wellFormed added)
+    (later-of (lastFrom 0 (c .events)) (c .clock) added ∙ ap (λ (t : Bool). t && nonFallingFrom (c .clock) added) (sym parts))
 
 satisfied : (ts : List Test) → all (λ t. isReading (t .reading)) ts ≡ true → (satisfiable ts ≡ true) ↔ Satisfiable ts
 satisfied ts named = (

@@ -10,7 +10,8 @@ use Rattle.declare.specs.TargetCases.{targets}
 use Rattle.declare.specs.OverallCases.{starts, overalls}
 use Rattle.declare.specs.ConditionCases.{Check, comparisons, conditions}
 use Rattle.declare.specs.BandCases.{bands, banded}
-use Rattle.declare.specs.LimitCases.{limits, withoutLine, withLine, offers, answers, takenTimes}
+use Rattle.declare.specs.LimitCases.{limits, withoutLine, withLine}
+use Rattle.declare.specs.CallCases.{offers, answers, mixed, overtaken, takenTimes, clockAfter, lapses}
 
 abbrev pub AsExpected : List Case → Type 0
 AsExpected cases = map (λ c. c .found) cases ≡ map (λ c. c .expected) cases
@@ -33,6 +34,8 @@ pub record Checked : Type 0 where
   pub of-banded : AsExpected banded
   pub of-limits : ChecksAsExpected limits
   pub of-numbers : (withLine ≡ 1 ∷ 2 ∷ 3 ∷ 4 ∷ 6 ∷ 7 ∷ 8 ∷ 12 ∷ 13 ∷ 16 ∷ 17 ∷ []) × (withoutLine ≡ 9 ∷ 10 ∷ 11 ∷ 14 ∷ 15 ∷ [])
-  pub of-offers : offers ≡ answers
-  pub of-taken : takenTimes ≡ 3 ∷ 3 ∷ 7 ∷ []
   pub of-lines : (all hasLine withLine ≡ true) × (any hasLine withoutLine ≡ false)
+  pub of-offers : offers ≡ answers
+  pub of-mixed : (takenTimes mixed ≡ 3 ∷ 3 ∷ 8 ∷ []) × (clockAfter mixed ≡ 8)
+  pub of-overtaken : (takenTimes overtaken ≡ 9 ∷ []) × (clockAfter overtaken ≡ 5)
+  pub of-lapses : AsExpected lapses

@@ -26,4 +26,5 @@ pub mod OverallCases
 pub mod ConditionCases
 pub mod BandCases
 pub mod LimitCases
+pub mod CallCases
 pub mod Checked

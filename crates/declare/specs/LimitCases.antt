@@ -1,15 +1,13 @@
--- Cases of limits, refusals and takes.
+-- Cases of limits and refusals.
 use mathlib.Core.Bool.{true, false}
 use mathlib.Core.List.{List, [], _∷_, map}
 use Prim.Native.Nat.{ℕ}
 use lib.IntN.{pos, negsuc}
-use Rattle.declare.specs.Types.{Blank, Value, Event, Equal, Less, Constant, Activation, Condition, End, Never, At, Rule, Table, FieldCount, NumberForm, OutOfRange, ComparisonForm, EmptyWindow, TimeFalls, TooMany, WrongPhase, NotFound, InvalidRecord, NoLineEnd, NoFile, TallyOverflow, BufferTooShort, TemplateMismatch, TooManyComparisons}
+use Rattle.declare.specs.Types.{Blank, Value, Equal, Less, Constant, Activation, Condition, End, Never, At, Rule, Table, FieldCount, NumberForm, OutOfRange, ComparisonForm, EmptyWindow, TimeFalls, TooMany, WrongPhase, NotFound, InvalidRecord, NoLineEnd, NoFile, TallyOverflow, BufferTooShort, TemplateMismatch, TooManyComparisons}
 use Rattle.declare.specs.Events.{wellFormed, nonFalling}
 use Rattle.declare.specs.Rules.{validRule, validTable}
 use Rattle.declare.specs.Continuations.{continuation}
 use Rattle.declare.specs.Refusals.{numberOf}
-use Rattle.declare.specs.Answers.{Answer, accepted, refused}
-use Rattle.declare.specs.Steps.{admits, taken}
 use Rattle.declare.specs.EdgeCycles.{compare, unused, always, when, window, event, reads}
 use Rattle.declare.specs.ConditionCases.{Check, _gives_, MIN, MAX}
 
@@ -136,24 +134,3 @@ withoutLine = map numberOf (WrongPhase ∷ NotFound ∷ InvalidRecord ∷ TallyO
 unfoldable pub withLine : List ℕ
 withLine =
     map numberOf (FieldCount ∷ NumberForm ∷ OutOfRange ∷ ComparisonForm ∷ EmptyWindow ∷ TimeFalls ∷ TooMany ∷ NoLineEnd ∷ NoFile ∷ TemplateMismatch ∷ TooManyComparisons ∷ [])
-
--- ---- takes
-
--- "refused with 3, else .. with 7, else .. with 8": at both sides of each limit, and an earlier
--- cause before a later one; then what is offered that is not taken
-unfoldable pub offers : List (Answer (Unit {0}))
-offers =
-    admits 0 5 (event 5 64)
-    ∷ admits 255 5 (event 5 1)
-    ∷ admits 0 5 (event 5 65)
-    ∷ admits 0 5 (event 4 1)
-    ∷ admits 256 5 (event 5 1)
-    ∷ admits 256 5 (event 4 65)
-    ∷ admits 256 5 (event 4 1)
-    ∷ []
-
-unfoldable pub answers : List (Answer (Unit {0}))
-answers = accepted tt ∷ accepted tt ∷ refused 3 ∷ refused 7 ∷ refused 8 ∷ refused 3 ∷ refused 7 ∷ []
-
-unfoldable pub takenTimes : List ℕ
-takenTimes = map (λ (e : Event). e .time) (taken (event 3 1 ∷ event 9 65 ∷ event 2 1 ∷ event 3 2 ∷ event 7 1 ∷ []))

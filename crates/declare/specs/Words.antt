@@ -11,13 +11,13 @@ use Rattle.declare.specs.Types.{Event, Test, End, Never, At, Rule, Stand
 use Rattle.declare.specs.Lists.{all}
 use Rattle.declare.specs.Comparisons.{passes}
 use Rattle.declare.specs.Conditions.{met}
-use Rattle.declare.specs.Events.{readingsInRange, wellFormed, nonFalling, eventAt}
+use Rattle.declare.specs.Events.{readingsInRange, wellFormed, nonFallingFrom, nonFalling, eventAt}
 use Rattle.declare.specs.Overall.{isOverall}
 use Rattle.declare.specs.Rules.{isReading}
 use Rattle.declare.specs.Suits.{activationAt, between, suits}
 use Rattle.declare.specs.Templates.{polarityOf}
 use Rattle.declare.specs.Verdicts.{eligible, target, decided, verdict}
-use Rattle.declare.specs.Continuations.{horizon, continuation}
+use Rattle.declare.specs.Continuations.{Course, horizon, continuation}
 use Rattle.declare.specs.Reachability.{satisfiable, canCome, standing}
 use Rattle.declare.specs.Standings.{isFulfilled, isViolated}
 
@@ -156,6 +156,7 @@ pub record Words : Type 0 where
   pub judged : (r : Rule) (es : List Event) (i : ℕ) → activationAt r es i ≡ true → Judged r es i
   pub four : (r : Rule) (es : List Event) → isOverall (r .code) ≡ true → Four r es (SomeOccurs r es (r .activation)) (SomeOccurs r es (r .target))
   -- of a cycle whose times do not fall, the continuations are what makes it a longer such cycle, of
-  -- well-formed events
-  pub continued : (es added : List Event) → nonFalling es ≡ true → continuation (horizon es) added ≡ (nonFalling (es ++ added) && all wellFormed added)
+  -- well-formed events, none below the last notice
+  pub continued : (c : Course) (added : List Event) → nonFalling (c .events) ≡ true
+      → continuation (horizon c) added ≡ (nonFalling (c .events ++ added) && nonFallingFrom (c .clock) added && all wellFormed added)
   pub satisfied : (ts : List Test) → all (λ t. isReading (t .reading)) ts ≡ true → (satisfiable ts ≡ true) ↔ Satisfiable ts

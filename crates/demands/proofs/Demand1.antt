@@ -3,7 +3,7 @@
 use mathlib.Core.Path.{_≡_, refl, sym, ap, _∙_}
 use mathlib.Core.Logic.{_↔_}
 use mathlib.Core.Bool.{Bool, true, not, _&&_}
-use mathlib.Core.List.{List, [], _∷_}
+use mathlib.Core.List.{List, [], _∷_, _++_}
 use Prim.Native.Nat.{ℕ}
 use native.Mathlib.Omega.{arith}
 use lib.Dec.{leb, ltb}
@@ -14,18 +14,18 @@ use Rattle.declare.specs.declared.Table.{Table}
 use Rattle.declare.specs.declared.Refusal.the-variants.{OutOfRange, TimeFalls, TooMany, WrongPhase, NotFound, InvalidRecord, TallyOverflow, BufferTooShort}
 use Rattle.declare.specs.Lists.{any}
 use Rattle.declare.specs.Limits.{mostEvents}
-use Rattle.declare.specs.Events.{wellFormed}
+use Rattle.declare.specs.Events.{latest, wellFormed}
 use Rattle.declare.specs.Rules.{rulesOf, validTable}
 use Rattle.declare.specs.Refusals.{numberOf}
 use Rattle.declare.specs.Answers.{Answer, accepted, refused, _>>=_, afterCall}
-use Rattle.declare.specs.Steps.{admits}
+use Rattle.declare.specs.Steps.{Call, takes, notices, admits}
 use Rattle.declare.proofs.Lists.{leb-not, ltb-not}
 use Rattle.declare.proofs.Answers.{of-of, required, after-refused}
 use Rattle.standings.specs.declared.totals.Totals.{Totals}
 use Rattle.run.specs.declared.Run.{Run}
 use Rattle.run.specs.Records.{eventsOf, horizonOf, totalsIn, validRun}
 use Rattle.run.specs.Start.{startOf}
-use Rattle.run.specs.Take.{takeOf}
+use Rattle.run.specs.Calls.{callOf, takeOf, noticeOf}
 use Rattle.run.specs.Close.{closeOf}
 use Rattle.run.specs.Queries.{oneOf, isPosition, standingOf, totalsOf}
 use Rattle.tally.specs.declared.Tally.{Tally}
@@ -47,7 +47,7 @@ use Rattle.notebook.specs.Notebook.{readAs, notRead, notebookOf, finishedOf, re
 use Rattle.demands.specs.Causes.{Cause, cause}
 use Rattle.demands.specs.LineCauses.{eventCauses, ruleCauses}
 use Rattle.demands.specs.Texts.{Reads}
-use Rattle.demands.specs.Demand1.{Refuses, startCauses, takeCauses, closeCauses, standingCauses, totalsCauses, absorbCauses, writeCauses, ReadsBoth, Demand1}
+use Rattle.demands.specs.Demand1.{Refuses, startCauses, takeCauses, noticeCauses, closeCauses, standingCauses, totalsCauses, absorbCauses, writeCauses, ReadsBoth, Demand1}
 use Rattle.demands.proofs.Chains.{Has, has-none, has-one, has-unless, has-only, has-then, has-after, refuses-first, accepts-none}
 use Rattle.demands.proofs.Texts.{reads}
 use Rattle.demands.proofs.Lines.{has-event, has-rule, eventNumbers, event-numbered, ruleNumbers, rule-numbered}
@@ -63,16 +63,31 @@ unfolding startOf startCauses numberOf
 has-start t = has-one (validTable t) InvalidRecord 11 _ [] refl (has-none _)
 
 module _ (r : Run) where
+  -- 11 and 9, then the causes of the call itself
+  has-call : (call : Call) (causes : List Cause) → Has (admits (r .count) (horizonOf r) call) causes → Has (callOf r call) (cause InvalidRecord (not (validRun r)) ∷ cause WrongPhase (r .closed) ∷ (causes ++ []))
+  unfolding callOf numberOf
+  has-call call causes h =
+      has-one (validRun r) InvalidRecord 11 _ _ refl (has-unless (r .closed) WrongPhase 9 _ _ refl (has-after (admits (r .count) (horizonOf r) call) _ _ [] h (has-none _)))
+
   has-take : (e : Event) → Has (takeOf r e) (takeCauses r e)
-  unfolding takeOf takeCauses numberOf
-  has-take e =
-      has-one (validRun r) InvalidRecord 11 _ _ refl (has-unless (r .closed) WrongPhase 9 _ _ refl (has-after (admits (r .count) (horizonOf r) e) _ _ [] has-admits (has-none _)))
+  unfolding takeCauses
+  has-take e = has-call (takes e) _ has-admits
     where
-      has-admits : Has (admits (r .count) (horizonOf r) e) (cause OutOfRange (not (wellFormed e)) ∷ cause TimeFalls (ltb (e .time) (horizonOf r)) ∷ cause TooMany (leb mostEvents (r .count)) ∷ [])
+      has-admits : Has (admits (r .count) (horizonOf r) (takes e)) (cause OutOfRange (not (wellFormed e)) ∷ cause TimeFalls (ltb (e .time) (horizonOf r)) ∷ cause TooMany (leb mostEvents (r .count)) ∷ [])
       has-admits =
-          unfold admits in
+          unfold admits numberOf in
           rw (leb-not (horizonOf r) (e .time), ltb-not (r .count) mostEvents)
           (has-one (wellFormed e) OutOfRange 3 _ _ refl (has-unless (ltb (e .time) (horizonOf r)) TimeFalls 7 _ _ refl (has-only (leb mostEvents (r .count)) TooMany 8 refl)))
+
+  has-notice : (time : ℕ) → Has (noticeOf r time) (noticeCauses r time)
+  unfolding noticeCauses
+  has-notice time = has-call (notices time) _ has-admits
+    where
+      has-admits : Has (admits (r .count) (horizonOf r) (notices time)) (cause OutOfRange (ltb latest time) ∷ cause TimeFalls (ltb time (horizonOf r)) ∷ [])
+      has-admits =
+          unfold admits numberOf in
+          rw (leb-not time latest, leb-not (horizonOf r) time)
+          (has-unless (ltb latest time) OutOfRange 3 _ _ refl (has-only (ltb time (horizonOf r)) TimeFalls 7 refl))
 
   has-close : Has (closeOf r) (closeCauses r)
   unfolding closeOf closeCauses numberOf
@@ -192,6 +207,7 @@ demand1 =
     record {
       start = λ t. refuses (startOf t) (startCauses t) (has-start t);
       take = λ r e. refuses (takeOf r e) (takeCauses r e) (has-take r e);
+      notice = λ r time. refuses (noticeOf r time) (noticeCauses r time) (has-notice r time);
       close = λ r. refuses (closeOf r) (closeCauses r) (has-close r);
       standing = λ r rule position. refuses (standingOf r rule position) (standingCauses r rule position) (has-standing r rule position);
       totals = λ r rule. refuses (totalsOf r rule) (totalsCauses r rule) (has-totals r rule);
@@ -201,7 +217,7 @@ demand1 =
       write-cycle = λ r buffer. refuses-write (validRun r) (eventsText (eventsOf r)) buffer;
       write-report = λ r buffer. refuses-write (validRun r) (reportOf r) buffer;
       print-texts = λ rules cycle buffer. refuses-write true (printedOf rules cycle) buffer;
-      take-keeps = λ r e n p. after-refused r (takeOf r e) n p;
+      call-keeps = λ r call n p. after-refused r (callOf r call) n p;
       close-keeps = λ r n p. after-refused r (closeOf r) n p;
       tally-keeps = λ r rule t n p. after-refused t (absorbOf r rule t) n p;
       buffer-keeps = buffer-kept;

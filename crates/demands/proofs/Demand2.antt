@@ -12,7 +12,7 @@ use Rattle.declare.specs.declared.Standing.{Standing}
 use Rattle.declare.specs.declared.Standing.the-variants.{Idle}
 use Rattle.declare.specs.Limits.{mostRules}
 use Rattle.declare.specs.Rules.{ruleAt, validTable}
-use Rattle.declare.specs.Slots.{tableOf}
+use Rattle.declare.specs.Slots.{eventSlots, tableOf}
 use Rattle.declare.specs.Suits.{activationAt}
 use Rattle.declare.specs.Verdicts.{verdict}
 use Rattle.declare.specs.Standings.{isIdle}
@@ -22,21 +22,19 @@ use Rattle.declare.proofs.Arrival.{rule-parts}
 use Rattle.declare.proofs.Words.{judged}
 use Rattle.declare.proofs.Exactness.{verdict-active}
 use Rattle.declare.proofs.Tables.{rule-valid}
-use Rattle.declare.proofs.Steps.{cycle-of-taken, taken-cycle}
+use Rattle.declare.proofs.Steps.{cycle-of-taken}
 use Rattle.formula.specs.Formula.{Formula}
 use Rattle.formula.specs.Table.{fixedOf, publishedOf}
 use Rattle.formula.specs.Agreement.{Agrees, Activated}
 use Rattle.formula.proofs.Agreement.{fixed-agrees, published-agrees}
 use Rattle.run.specs.declared.Run.{Run}
 use Rattle.declare.specs.Answers.{accepted}
-use Rattle.run.specs.Close.{closedRun}
+use Rattle.run.specs.Close.{closedRun, finishedRun}
 use Rattle.run.specs.Queries.{standingOf}
-use Rattle.run.specs.Takes.{grown, Answers, finished}
+use Rattle.run.specs.Grown.{grown, Answers, finished}
 use Rattle.run.proofs.Answered.{position-within}
-use Rattle.run.proofs.Takes.{takes}
-use Rattle.run.proofs.Grown.{finished-is-grown}
+use Rattle.run.proofs.Grown.{every-calls, finished-answers}
 use Rattle.cycle_text.proofs.RoundTrips.{round-trips as cycle-trips}
-use Rattle.notebook.specs.Notebook.{readAs, notebookOf}
 use Rattle.notebook.proofs.Replies.{accepted-texts}
 use Rattle.notebook.proofs.Read.{read-table, read-slots}
 use Rattle.demands.specs.Demand2.{Decides, FollowsFormulas, Demand2Grown, Demand2Read}
@@ -81,11 +79,11 @@ follows t es r slots valid cycle answers k i w =
         }
 
 pub demand2-grown : Demand2Grown
-demand2-grown t offered slots valid =
-    follows t (taken offered) (closedRun (grown t offered)) slots valid (cycle-of-taken offered) (takes t offered slots valid .closed-answers)
+demand2-grown t calls slots valid =
+    follows t (taken calls) (closedRun (grown t calls)) slots valid (cycle-of-taken calls) (every-calls t calls slots valid .closed-answers)
 
 pub demand2-read : Demand2Read
-demand2-read rulesText cycleText rules es p q = (closedRun (grown (tableOf rules) es), read, follows (tableOf rules) es (closedRun (grown (tableOf rules) es)) slots valid cycle answers)
+demand2-read rulesText cycleText rules es p q = (finishedRun (tableOf rules) (length es) (eventSlots es), accepted-texts rulesText cycleText rules es p q, follows (tableOf rules) es (finishedRun (tableOf rules) (length es) (eventSlots es)) slots valid cycle (finished-answers (tableOf rules) slots valid es cycle))
   where
     cycle : Cycle es
     cycle = cycle-trips .valid cycleText es q
@@ -95,11 +93,3 @@ demand2-read rulesText cycleText rules es p q = (closedRun (grown (tableOf rules
 
     valid : validTable (tableOf rules) ≡ true
     valid = read-table rulesText rules p
-
-    answers : Answers (tableOf rules) es (finished (tableOf rules) es) (closedRun (grown (tableOf rules) es))
-    answers =
-        subst (λ (l : List Event). Answers (tableOf rules) l (finished (tableOf rules) l) (closedRun (grown (tableOf rules) es))) (taken-cycle es cycle)
-        (takes (tableOf rules) es slots valid .closed-answers)
-
-    read : notebookOf rulesText cycleText ≡ readAs (closedRun (grown (tableOf rules) es))
-    read = accepted-texts rulesText cycleText rules es p q ∙ ap readAs (finished-is-grown (tableOf rules) slots valid es cycle)

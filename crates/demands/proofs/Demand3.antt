@@ -1,4 +1,4 @@
--- The claim over a list of takes, and the exactness of early verdicts for the list of taken events.
+-- The claim over a list of calls, and the exactness of early verdicts for the course they come to.
 use mathlib.Core.Path.{_≡_, refl, sym, ap, subst, _∙_}
 use mathlib.Core.Bool.{Bool, true, false}
 use mathlib.Core.List.{List, map}
@@ -16,24 +16,25 @@ use Rattle.rule_text.specs.Rules.{rulesTextOf}
 use Rattle.declare.specs.Overall.{isOverall}
 use Rattle.declare.specs.Rules.{ruleAt, rulesOf, isOverallRule, validTable}
 use Rattle.declare.specs.Answers.{_>>_, require}
-use Rattle.declare.specs.Steps.{Cycle, taken}
+use Rattle.declare.specs.Steps.{Cycle, Call, course, taken}
+use Rattle.declare.specs.Continuations.{Course}
 use Rattle.declare.specs.Limits.{mostRules}
+use Rattle.declare.specs.Slots.{eventSlots}
 use Rattle.declare.proofs.Booleans.{and₂}
-use Rattle.declare.proofs.Steps.{cycle-of-taken, taken-cycle}
+use Rattle.declare.proofs.Steps.{cycle-of-taken}
 use Rattle.declare.proofs.Tables.{rules-within, rule-valid, table-slots, table-valid}
 use Rattle.standings.specs.Places.{zeroIn}
 use Rattle.standings.specs.Totals.{positionsOf, totalsBy}
 use Rattle.standings.proofs.Places.{from-one}
 use Rattle.standings.proofs.Same.{same-cells, same-overall}
 use Rattle.run.specs.declared.Run.{Run}
-use Rattle.run.specs.Records.{standingAt, validRun}
-use Rattle.run.specs.Close.{closedRun}
+use Rattle.run.specs.Records.{withClock, standingAt, validRun}
+use Rattle.run.specs.Close.{closedRun, finishedRun}
 use Rattle.run.specs.Queries.{isPosition, standingOf, totalsOf}
-use Rattle.run.specs.Takes.{grown, running, finished, RunOf, Answers}
+use Rattle.run.specs.Grown.{grown, running, finished, RunOf, Answers}
 use Rattle.run.proofs.Places.{overall-rule, no-rule, zero-overall}
 use Rattle.run.proofs.Answered.{totals-counted, position-within}
-use Rattle.run.proofs.Takes.{takes}
-use Rattle.run.proofs.Grown.{finished-is-grown}
+use Rattle.run.proofs.Grown.{every-calls, finished-run}
 use Rattle.cycle_text.specs.Written.{eventsText}
 use Rattle.cycle_text.proofs.RoundTrips.{round-trips as cycle-trips}
 use Rattle.rule_text.specs.Written.{ValidRules, rulesText, canonical, rewritten}
@@ -48,10 +49,17 @@ use Rattle.notebook.proofs.Replies.{accepted-texts}
 use Rattle.demands.proofs.Early.{early-at}
 use Rattle.demands.specs.Demand3.{EarlyVerdicts, Bytes, ReadBack, EveryTable}
 
-early : (t : Table) (es : List Event) (r : Run) → length (t .rules) ≡ mostRules → validTable t ≡ true → Cycle es → Answers t es (running t es) r → EarlyVerdicts t es r
-early t es r slots valid cycle answers k i w =
-    early-at (ruleAt t k) es r k i (rule-valid t slots valid k (w .rule-low) (w .rule-high)) (cycle .formed) (cycle .order) (position-within t (length es) k i (w .position))
+early : (t : Table) (c : Course) (r : Run) → length (t .rules) ≡ mostRules → validTable t ≡ true → Cycle (c .events) → Answers t (c .events) (running t c) r → EarlyVerdicts t c r
+early t c r slots valid cycle answers k i w =
+    early-at (ruleAt t k) c r k i (rule-valid t slots valid k (w .rule-low) (w .rule-high)) cycle (position-within t (length (c .events)) k i (w .position))
     (answers .standing k i (w .rule-low) (w .rule-high) (w .position))
+
+-- closed runs by their events
+closes-alike : (t : Table) (calls others : List Call) → length (t .rules) ≡ mostRules → validTable t ≡ true → taken others ≡ taken calls → closedRun (grown t others) ≡ withClock (closedRun (grown t calls)) (course others .clock)
+closes-alike t calls others slots valid same =
+    every-calls t others slots valid .closed-once
+    ∙ ap (λ (es : List Event). withClock (finishedRun t (length es) (eventSlots es)) (course others .clock)) same
+    ∙ ap (λ (r : Run). withClock r (course others .clock)) (sym (every-calls t calls slots valid .closed-once))
 
 -- ---- the notebook
 
@@ -80,9 +88,9 @@ module _ (q r : Run) (s : Alike q r) where
       rw (totals-counted q (suc k), totals-counted r (suc k))
       (rw (s .left, s .right, s .about (suc k) (omega arith), s .rules, s .events, s .cells, s .overall))
 
-module _ (t : Table) (offered : List Event) (slots : length (t .rules) ≡ mostRules) (valid : validTable t ≡ true) where
+module _ (t : Table) (calls : List Call) (slots : length (t .rules) ≡ mostRules) (valid : validTable t ≡ true) where
   abbrev es : List Event
-  es = taken offered
+  es = taken calls
 
   abbrev u : Table
   u = rewritten t
@@ -91,7 +99,7 @@ module _ (t : Table) (offered : List Event) (slots : length (t .rules) ≡ mostR
   few = rules-within t valid
 
   cycle : Cycle es
-  cycle = cycle-of-taken offered
+  cycle = cycle-of-taken calls
 
   read-rules : rulesTextOf (rulesText (rulesOf t)) ≡ All (map canonical (rulesOf t))
   read-rules = rules-trips .read (rulesOf t) (valid-rules t valid)
@@ -114,33 +122,31 @@ module _ (t : Table) (offered : List Event) (slots : length (t .rules) ≡ mostR
   u-valid = table-valid (map canonical (rulesOf t)) (rules-valid .most) (rules-valid .valid)
 
   abbrev read : Run
-  read = closedRun (grown u es)
+  read = finishedRun u (length es) (eventSlots es)
 
   reply : notebookOf (rulesText (rulesOf t)) (eventsText es) ≡ readAs read
   reply =
       accepted-texts (rulesText (rulesOf t)) (eventsText es) (map canonical (rulesOf t)) es read-rules (cycle-trips .read es cycle)
-      ∙ ap readAs (finished-is-grown u u-slots u-valid es cycle)
 
-  read-run : RunOf u es true (finished u es) read
-  read-run =
-      subst (λ (l : List Event). RunOf u l true (finished u l) read) (taken-cycle es cycle) (takes u es u-slots u-valid .closed-run)
+  read-run : RunOf u (record { events = es; clock = 0 }) true (finished u es) read
+  read-run = finished-run u u-slots u-valid es cycle
 
-  closed : RunOf t es true (finished t es) (closedRun (grown t offered))
-  closed = takes t offered slots valid .closed-run
+  closed : RunOf t (course calls) true (finished t es) (closedRun (grown t calls))
+  closed = every-calls t calls slots valid .closed-run
 
   count : u .count ≡ t .count
   count = same-count t slots few
 
-  alike : (k i : ℕ) → 1 ≤ k → k ≤ t .count → i ≤ length es → standingAt read k i ≡ standingAt (closedRun (grown t offered)) k i
+  alike : (k i : ℕ) → 1 ≤ k → k ≤ t .count → i ≤ length es → standingAt read k i ≡ standingAt (closedRun (grown t calls)) k i
   alike k i a b d =
       read-run .standings k i a (rw count b) d
       ∙ ap (λ (rule : Rule). verdict rule es i) (canonical-rule t slots few k a b)
       ∙ canonical-verdict (ruleAt t k) es i
       ∙ sym (closed .standings k i a b d)
 
-  cells : read .cells ≡ closedRun (grown t offered) .cells
+  cells : read .cells ≡ closedRun (grown t calls) .cells
   cells =
-      same-cells (t .count) (length es) (read .cells) (closedRun (grown t offered) .cells)
+      same-cells (t .count) (length es) (read .cells) (closedRun (grown t calls) .cells)
       (record { size = read-run .cells; idle = λ j h e. read-run .idle j h (rw count e) })
       (record { size = closed .cells; idle = closed .idle })
       (λ k i a b c d. sym (from-one _ _ i c) ∙ alike k i a b d ∙ from-one _ _ i c)
@@ -159,14 +165,14 @@ module _ (t : Table) (offered : List Event) (slots : length (t .rules) ≡ mostR
           let l : t .count < k = leb-false k (t .count) e in
           no-rule u k (rw count l) ∙ sym (no-rule t k l)
 
-  overall : read .overall ≡ closedRun (grown t offered) .overall
+  overall : read .overall ≡ closedRun (grown t calls) .overall
   overall =
-      same-overall (isOverallRule t) (read .overall) (closedRun (grown t offered) .overall) (read-run .overall) (closed .overall)
+      same-overall (isOverallRule t) (read .overall) (closedRun (grown t calls) .overall) (read-run .overall) (closed .overall)
       (λ k a b o. read-run .others k a b (same-rule k a ∙ o)) (closed .others)
       (λ k a b o.
-      sym (zero-overall read k (rw (read-run .table) (same-rule k a ∙ o))) ∙ alike k 0 a (unfold isOverallRule in leb-true k (t .count) (and₂ o .0)) zero-le ∙ zero-overall (closedRun (grown t offered)) k (rw (closed .table) o))
+      sym (zero-overall read k (rw (read-run .table) (same-rule k a ∙ o))) ∙ alike k 0 a (unfold isOverallRule in leb-true k (t .count) (and₂ o .0)) zero-le ∙ zero-overall (closedRun (grown t calls)) k (rw (closed .table) o))
 
-  same : Alike read (closedRun (grown t offered))
+  same : Alike read (closedRun (grown t calls))
   same =
       record {
         left = read-run .valid;
@@ -178,7 +184,7 @@ module _ (t : Table) (offered : List Event) (slots : length (t .rules) ≡ mostR
         overall = overall;
       }
 
-  notebook : ReadBack t offered read
+  notebook : ReadBack t calls read
   notebook =
       record {
         rules-text = rules-text;
@@ -187,14 +193,15 @@ module _ (t : Table) (offered : List Event) (slots : length (t .rules) ≡ mostR
         run = read-run;
         cells = cells;
         overall = overall;
-        standing = same-standing read (closedRun (grown t offered)) same;
-        totals = same-totals read (closedRun (grown t offered)) same;
+        standing = same-standing read (closedRun (grown t calls)) same;
+        totals = same-totals read (closedRun (grown t calls)) same;
       }
 
 pub demand3 : EveryTable
-demand3 t offered slots valid =
+demand3 t calls slots valid =
     record {
-      takes = takes t offered slots valid;
-      early = early t (taken offered) (grown t offered) slots valid (cycle-of-taken offered) (takes t offered slots valid .answers);
-      notebook = (read t offered slots valid, notebook t offered slots valid);
+      run = every-calls t calls slots valid;
+      early = early t (course calls) (grown t calls) slots valid (cycle-of-taken calls) (every-calls t calls slots valid .answers);
+      alike = λ others same. closes-alike t calls others slots valid same;
+      notebook = (read t calls slots valid, notebook t calls slots valid);
     }

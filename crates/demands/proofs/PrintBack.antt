@@ -17,7 +17,7 @@ use Rattle.run.specs.Records.{eventsOf, validRun}
 use Rattle.run.specs.Start.{idleRun}
 use Rattle.run.specs.Close.{finishedRun}
 use Rattle.run.proofs.Answered.{valid-cycle}
-use Rattle.run.proofs.Grown.{finished-events}
+use Rattle.run.proofs.Whole.{finished-events}
 use Rattle.line.specs.declared.Outcome.the-variants.{Accepted}
 use Rattle.line.specs.Texts.{All}
 use Rattle.cycle_text.specs.declared.CycleRead.{CycleRead}

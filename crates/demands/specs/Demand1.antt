@@ -16,14 +16,15 @@ use Rattle.declare.specs.declared.Event.{Event}
 use Rattle.declare.specs.declared.Rule.{Rule}
 use Rattle.declare.specs.declared.Table.{Table}
 use Rattle.declare.specs.declared.Refusal.the-variants.{OutOfRange, TimeFalls, TooMany, WrongPhase, NotFound, InvalidRecord, TallyOverflow, BufferTooShort}
-use Rattle.declare.specs.Events.{wellFormed}
+use Rattle.declare.specs.Events.{latest, wellFormed}
 use Rattle.declare.specs.Rules.{rulesOf, validTable}
 use Rattle.declare.specs.Limits.{mostEvents}
 use Rattle.declare.specs.Answers.{Answer, accepted, refused, afterCall}
+use Rattle.declare.specs.Steps.{Call}
 use Rattle.run.specs.declared.Run.{Run}
 use Rattle.run.specs.Records.{eventsOf, horizonOf, totalsIn, validRun}
 use Rattle.run.specs.Start.{startOf}
-use Rattle.run.specs.Take.{takeOf}
+use Rattle.run.specs.Calls.{callOf, takeOf, noticeOf}
 use Rattle.run.specs.Close.{closeOf}
 use Rattle.run.specs.Queries.{oneOf, isPosition, standingOf, totalsOf}
 use Rattle.tally.specs.declared.Tally.{Tally}
@@ -65,6 +66,15 @@ takeCauses r e =
     ∷ cause OutOfRange (not (wellFormed e))
     ∷ cause TimeFalls (ltb (e .time) (horizonOf r))
     ∷ cause TooMany (leb mostEvents (r .count))
+    ∷ []
+
+-- notice: "11, on a closed run by 9, outside its range by 3, below the last event or notice by 7"
+unfoldable pub noticeCauses : Run → ℕ → List Cause
+noticeCauses r time =
+    cause InvalidRecord (not (validRun r))
+    ∷ cause WrongPhase (r .closed)
+    ∷ cause OutOfRange (ltb latest time)
+    ∷ cause TimeFalls (ltb time (horizonOf r))
     ∷ []
 
 -- "close: 11, 9"
@@ -112,6 +122,7 @@ pub record ReadsBoth (rules cycle : List ℕ) : Type 0 where
 pub record Demand1 : Type 0 where
   pub start : (t : Table) → Refuses (startCauses t) (startOf t)
   pub take : (r : Run) (e : Event) → Refuses (takeCauses r e) (takeOf r e)
+  pub notice : (r : Run) (time : ℕ) → Refuses (noticeCauses r time) (noticeOf r time)
   pub close : (r : Run) → Refuses (closeCauses r) (closeOf r)
   pub standing : (r : Run) (rule position : ℕ) → Refuses (standingCauses r rule position) (standingOf r rule position)
   pub totals : (r : Run) (rule : ℕ) → Refuses (totalsCauses r rule) (totalsOf r rule)
@@ -131,7 +142,7 @@ pub record Demand1 : Type 0 where
   pub print-texts : (rules cycle buffer : List ℕ)
       → Refuses (writeCauses true (printedOf rules cycle) buffer) (printTextsOf rules cycle buffer)
   -- "a refusal alters neither run nor tally nor any lent buffer"
-  pub take-keeps : (r : Run) (e : Event) (n : ℕ) → takeOf r e ≡ refused n → afterCall r (takeOf r e) ≡ r
+  pub call-keeps : (r : Run) (call : Call) (n : ℕ) → callOf r call ≡ refused n → afterCall r (callOf r call) ≡ r
   pub close-keeps : (r : Run) (n : ℕ) → closeOf r ≡ refused n → afterCall r (closeOf r) ≡ r
   pub tally-keeps : (r : Run) (rule : ℕ) (t : Tally) (n : ℕ)
       → absorbOf r rule t ≡ refused n

@@ -20,7 +20,7 @@ use Rattle.declare.specs.Limits.{mostRules}
 use Rattle.declare.specs.Rules.{validTable, ruleAt}
 use Rattle.declare.specs.Suits.{activationAt}
 use Rattle.declare.specs.Verdicts.{verdict}
-use Rattle.declare.specs.Steps.{taken}
+use Rattle.declare.specs.Steps.{Call, taken}
 use Rattle.declare.specs.Words.{Names, targetIn}
 use Rattle.formula.specs.Formula.{Formula, Holds}
 use Rattle.formula.specs.Table.{fixedOf, publishedOf}
@@ -29,7 +29,7 @@ use Rattle.run.specs.declared.Run.{Run}
 use Rattle.declare.specs.Answers.{accepted}
 use Rattle.run.specs.Close.{closedRun}
 use Rattle.run.specs.Queries.{isPosition, standingOf}
-use Rattle.run.specs.Takes.{grown}
+use Rattle.run.specs.Grown.{grown}
 use Rattle.line.specs.Texts.{All}
 use Rattle.cycle_text.specs.Cycle.{cycleTextOf}
 use Rattle.rule_text.specs.Rules.{rulesTextOf}
@@ -81,10 +81,10 @@ FollowsFormulas t es r = (k i : ℕ) → InCycle t es k i → Follows (ruleAt t 
 -- a grown run, closed; proved as `demand2-grown`
 abbrev pub Demand2Grown : Type 0
 Demand2Grown =
-    (t : Table) (offered : List Event)
+    (t : Table) (calls : List Call)
     → length (t .rules) ≡ mostRules
     → validTable t ≡ true
-    → FollowsFormulas t (taken offered) (closedRun (grown t offered))
+    → FollowsFormulas t (taken calls) (closedRun (grown t calls))
 
 -- a run that the notebook has read; proved as `demand2-read`
 abbrev pub Demand2Read : Type 0

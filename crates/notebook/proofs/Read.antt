@@ -16,7 +16,7 @@ use Rattle.declare.proofs.Tables.{table-slots, table-valid}
 use Rattle.run.specs.declared.Run.{Run}
 use Rattle.run.specs.Records.{validRun}
 use Rattle.run.specs.Close.{finishedRun}
-use Rattle.run.proofs.Grown.{finished-valid}
+use Rattle.run.proofs.Grown.{finished-run}
 use Rattle.line.specs.Texts.{Records, All, Stop}
 use Rattle.cycle_text.specs.Cycle.{cycleTextOf}
 use Rattle.cycle_text.proofs.RoundTrips as cycle-text
@@ -70,7 +70,7 @@ pub read-valid : (rules cycle : List ℕ) (r : Run) → notebookOf rules cycle �
 read-valid rules cycle r e =
     let f = read-from rules cycle r e in
     let c : Cycle (f .es) = cycle-text.round-trips .valid cycle (f .es) (f .cycle-read) in
-    ap validRun (f .run) ∙ finished-valid (tableOf (f .rs)) (read-slots rules (f .rs) (f .rules-read)) (read-table rules (f .rs) (f .rules-read)) (f .es) c
+    ap validRun (f .run) ∙ finished-run (tableOf (f .rs)) (read-slots rules (f .rs) (f .rules-read)) (read-table rules (f .rs) (f .rules-read)) (f .es) c .valid
 
 -- ---- a refusal
 

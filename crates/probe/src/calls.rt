@@ -60,6 +60,7 @@ pub fn call(run: Run, command: [u8; 32]) -> Run {
     let letter = command[0];
     match letter {
         101 => stepped(run.take(command::event(command))),
+        107 => stepped(run.notice(command::number(command) as u64)),
         120 => stepped(run.close()),
         103 => {
             ask_standing(run, command);

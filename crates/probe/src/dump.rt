@@ -297,6 +297,10 @@ fn write_count(n: usize) {
 pub fn whole(run: Run) -> Run {
     let mut out = [0u8; 8];
     out[0] = bit(run.closed);
+    out[4] = byte(run.clock, 1);
+    out[5] = byte(run.clock, 256);
+    out[6] = byte(run.clock, 65536);
+    out[7] = byte(run.clock, 16777216);
     io::write_all(1, &out);
     write_count(run.count);
     let table = run.table;

@@ -46,12 +46,12 @@ fn change_run(table: Table, run: Run, command: [u8; 32]) -> Run {
     match letter {
         // T
         84 => record::with_table(run, table),
-        // C F E S O
-        67 | 70 | 69 | 83 | 79 => record::changed(run, command),
+        // C F E S O K
+        67 | 70 | 69 | 83 | 79 | 75 => record::changed(run, command),
         // s
         115 => calls::start(run, table),
-        // e x g o
-        101 | 120 | 103 | 111 => calls::call(run, command),
+        // e k x g o
+        101 | 107 | 120 | 103 | 111 => calls::call(run, command),
         // Y
         89 => text::cycle(run, command),
         // N

@@ -102,6 +102,10 @@ pub fn changed(run: Run, command: [u8; 32]) -> Run {
             next.closed = command[1] != 0;
             next
         },
+        75 => {
+            next.clock = command::low_half(command);
+            next
+        },
         69 => with_event(run, command),
         79 => with_totals(run, command),
         _ => with_cell(run, command),

@@ -18,7 +18,7 @@ use Rattle.standings.specs.Totals.{positionsOf, totalsBy}
 use Rattle.judge.specs.Cells.{judged, judgedAt, judgedCells, judgedOverall}
 use Rattle.run.specs.Records.{eventsOf, validEvents, validAt, validRow, eventsJudged, validStandings, validOverall, countedTotals, validTotals, validRun}
 use Rattle.run.specs.Start.{idleRun, newRun, startOf, started}
-use Rattle.run.specs.Take.{judgedRun}
+use Rattle.run.specs.Calls.{judgedRun}
 use Rattle.run.specs.Close.{closedAt, closedCells, closedOverall, closedRun, finishedRun}
 use Rattle.run.specs.Queries.{isPosition}
 use Rattle.run.specs.Cases.{codes, records, starts, zeros, judgements, closings, finished, numbers, positions, counts, checkedTotals, keptTotals, Checked}

@@ -1,181 +1,375 @@
--- The run of a finished cycle is the run that is grown from the same table by the same events, and
--- closed.
+-- The claim over a list of takes and notices.
 --
--- All events of a cycle are taken. The grown run has the verdicts where a cell is in use, and is
--- idle elsewhere; so has the finished one.
+-- By induction over the list: what holds of the run and its course before a call holds after it. A
+-- refused call keeps both. An accepted take puts the event at the end of both, an accepted notice
+-- its time in both; a standing that is carried over is what the next course says, since decided
+-- standings are exact; a new position was idle before. Closing turns each standing into its verdict.
 use mathlib.Core.Path.{_≡_, refl, sym, ap, ap₂, subst, _∙_}
-use mathlib.Core.Logic.{_⊎_, ⊎-elim}
-use mathlib.Core.Bool.{Bool, true, false, cond}
-use mathlib.Core.List.{List}
-use Prim.Native.Nat.{ℕ, zero, suc, _-_, _≤_, _<_, zero-le}
+use mathlib.Core.Bool.{Bool, true, false, not, cond, and-false}
+use mathlib.Core.List.{List, [], _∷_, _++_, map, append-assoc}
+use Prim.Native.Nat.{ℕ, zero, suc, _+_, _-_, _≤_, _<_}
 use native.Mathlib.Omega.{arith}
-use borrow.Author.Tests.{leb-true, not-false}
+use borrow.Author.Tests.{le-leb, lt-leb, ltb-true, leb-true, leb-false}
 use lib.Dec.{leb}
-use lib.ListN.{length, getD, take, replicate, length-replicate}
-use lib.Seq.{take-append-seam}
+use lib.ListN.{length, getD, set, take, replicate, length-set, length-append, length-replicate, getD-replicate}
+use lib.Seq.{take-append-seam, set-append-seam}
 use Rattle.declare.specs.declared.Event.{Event}
+use Rattle.declare.specs.declared.Rule.{Rule}
 use Rattle.declare.specs.declared.Table.{Table}
 use Rattle.declare.specs.declared.Standing.{Standing}
 use Rattle.declare.specs.declared.Standing.the-variants.{Idle}
 use Rattle.declare.specs.Limits.{mostRules, mostEvents}
-use Rattle.declare.specs.Events.{emptySlot}
-use Rattle.declare.specs.Overall.{isOverall}
-use Rattle.declare.specs.Rules.{ruleAt, isOverallRule, validTable}
+use Rattle.declare.specs.Events.{lastFrom, lastTime, emptySlot}
+use Rattle.declare.specs.Rules.{ruleAt, validTable}
 use Rattle.declare.specs.Slots.{padded, eventSlots}
-use Rattle.declare.specs.Verdicts.{verdict}
-use Rattle.declare.specs.Steps.{carried, Cycle}
-use Rattle.declare.proofs.Booleans.{and-left}
-use Rattle.declare.proofs.Zero.{activation-zero}
-use Rattle.declare.proofs.Exactness.{verdict-active}
-use Rattle.declare.proofs.Carried.{only-idle}
+use Rattle.declare.specs.Lists.{bit, countBelow}
+use Rattle.declare.specs.Overall.{isOverall}
+use Rattle.declare.specs.Suits.{isActivation, activationAt}
+use Rattle.declare.specs.Continuations.{Course, horizon}
+use Rattle.declare.specs.Reachability.{standing}
+use Rattle.declare.specs.Standings.{isIdle}
+use Rattle.declare.specs.Answers.{accepted, _>>_, isAccepted, afterCall}
+use Rattle.declare.specs.Steps.{carried, closed, Cycle, Call, takes, notices, admits, isAdmitted, courseWith, courseAfter, course, taken}
+use Rattle.declare.proofs.Booleans.{both₃}
+use Rattle.declare.proofs.Zero.{activation-zero, activation-event}
+use Rattle.declare.proofs.Answers.{passed, accepted-then, after-then}
+use Rattle.declare.proofs.Steps.{empty-cycle, take-admitted, addedBy, GoesOn, goes-on, carried-next, closed-decided, closed-is-verdict, cycle-of-taken, course-of-cycle}
 use Rattle.declare.proofs.Lists.{replicated}
-use Rattle.declare.proofs.Tables.{rules-within}
-use Rattle.declare.proofs.Steps.{taken-cycle}
-use Rattle.standings.specs.declared.Cell.{Cell}
-use Rattle.standings.specs.Places.{places, idleCell, idleCells, idleOverall, overallIn, zeroIn, withZero, inUse}
-use Rattle.standings.specs.Totals.{noTotals}
-use Rattle.standings.proofs.Places.{from-one}
-use Rattle.standings.proofs.Changes.{changed-length, changed-kept, idle-everywhere, overall-length, overall-kept}
-use Rattle.standings.proofs.Same.{same-cells, same-overall}
-use Rattle.judge.specs.Cells.{judged, judgedAt, judgedCells, judgedOverall}
+use Rattle.declare.proofs.Tables.{rules-within, rule-valid}
+use Rattle.declare.proofs.Exactness.{verdict-active, standing-active}
+use Rattle.standings.specs.Places.{places, idleCell, placeOf, inUse}
+use Rattle.standings.specs.Totals.{totalsBy, noTotals}
+use Rattle.standings.proofs.Places.{in-use, in-use-fewer, from-one}
+use Rattle.standings.proofs.Changes.{idle-standing}
+use Rattle.standings.proofs.Counts.{totals-same, totals-sum, totals-activations}
 use Rattle.run.specs.declared.Run.{Run}
-use Rattle.run.specs.Records.{eventsOf, standingAt, storedTotals, withEvents, withStandings, asClosed, withTotals, counted, validRun}
-use Rattle.run.specs.Start.{idleRun}
-use Rattle.run.specs.Close.{closedRun, finishedRun}
-use Rattle.run.specs.Takes.{grown, RunOf, finished}
-use Rattle.run.specs.Words.{Placed}
-use Rattle.run.proofs.Places.{overall-rule, zero-overall, overall-idle, change-at, change-past, change-none}
-use Rattle.run.proofs.Stored.{counted-length, counted-kept, stored-recounted}
-use Rattle.run.proofs.Takes.{takes}
+use Rattle.run.specs.Records.{eventsOf, courseOf, horizonOf, withEvents, withClock, standingAt, totalsIn, validEvents, validRun, Sized}
+use Rattle.run.specs.Start.{idleRun, newRun, startOf, started}
+use Rattle.run.specs.Calls.{entered, judgedRun, callOf}
+use Rattle.run.specs.Close.{closedRun, closeOf, runningRun, finishedRun}
+use Rattle.run.specs.Grown.{afterCalls, grown, RunOf, Fits, Answers, running, finished, callAfter, EveryCalls}
+use Rattle.run.proofs.Guards.{call-by}
+use Rattle.run.proofs.Stored.{counted-length, counted-kept}
+use Rattle.run.proofs.Answered.{standing-found, totals-found, position-within}
+use Rattle.run.proofs.Places.{start-zero, start-unread, start-overall, judged-length, closed-length, judged-overall, closed-overall, judged-standing, judged-kept, judged-unread, closed-standing, closed-kept, closed-unread}
+use Rattle.run.proofs.Whole.{slots-of, first-events, running-is, finished-is}
+use Rattle.run.proofs.Validity.{start-valid, onward, onward-sized, onward-valid, closed-run-valid}
 
--- ---- the events of a finished cycle, and its cells: one in use has the verdict, every other is
--- idle
+-- ---- start
 
-module _ (t : Table) (es : List Event) where
-  size : length idleCells ≡ places
-  size = length-replicate places idleCell
+run-started : (t : Table) → validTable t ≡ true → RunOf t (course []) false (running t (course [])) (newRun t)
+unfolding newRun idleRun padded horizon lastTime lastFrom course courseAfter
+run-started t v =
+    record {
+      valid = start-valid t v;
+      phase = refl;
+      table = refl;
+      count = refl;
+      events = refl;
+      cells = length-replicate places idleCell;
+      overall = start-overall t;
+      totals = counted-length _ ∙ length-replicate mostRules noTotals;
+      clock = refl;
+      standings = at;
+      idle = λ j l u. getD-replicate places j idleCell idleCell l;
+      others = start-unread t;
+      unused = λ k a b. counted-kept _ k (omega arith) (omega (arith, length-replicate mostRules noTotals, b)) a ∙ replicated mostRules (k - 1) noTotals;
+    }
+  where
+    at : (k i : ℕ) → 1 ≤ k → k ≤ t .count → i ≤ 0 → standingAt (newRun t) k i ≡ standing (ruleAt t k) [] 0 i
+    at k zero a b c = start-zero t k a b (omega (arith, rules-within t v))
+    at k (suc i) a b c = absurd (omega arith)
 
-  first : take (length es) (eventSlots es) ≡ es
-  unfolding padded
-  first = take-append-seam es (replicate (mostEvents - length es) emptySlot)
+-- ---- the answer of a call
 
-  pub finished-events : eventsOf (finishedRun t (length es) (eventSlots es)) ≡ es
-  unfolding eventsOf finishedRun
-  finished-events = first
+module _ (c : Course) (r : Run) (call : Call) where
+  answer-is : validRun r ≡ true → r .closed ≡ false → courseOf r ≡ c → r .count ≡ length (c .events) → callOf r call ≡ callAfter c r call
+  unfolding callAfter
+  answer-is v o k n =
+      call-by r call v o
+      ∙ ap₂ (λ (m h : ℕ). admits m h call >> accepted (judgedRun (entered r call))) n (ap horizon k)
 
-  abbrev finishedCells : List Cell
-  finishedCells = finishedRun t (length es) (eventSlots es) .cells
+  -- accepted just if the call is admitted
+  accepted-admitted : isAccepted (callAfter c r call) ≡ isAdmitted c call
+  unfolding callAfter isAdmitted
+  accepted-admitted = accepted-then (admits (length (c .events)) (horizon c) call) (judgedRun (entered r call))
 
-  pub finished-length : length finishedCells ≡ places
-  unfolding finishedRun judgedCells
-  finished-length = changed-length _ (t .count) (length es) idleCells ∙ size
+  run-after : afterCall r (callAfter c r call) ≡ cond (isAdmitted c call) (judgedRun (entered r call)) r
+  unfolding callAfter isAdmitted
+  run-after = after-then r (admits (length (c .events)) (horizon c) call) (judgedRun (entered r call))
 
-  pub finished-idle : (j : ℕ) → j < places → inUse (t .count) (length es) j ≡ false → getD finishedCells j idleCell ≡ idleCell
-  unfolding finishedRun judgedCells
-  finished-idle j h u = changed-kept _ (t .count) (length es) idleCells j (rw size h) u ∙ replicated places j idleCell
+-- ---- one call more
 
-  abbrev finishedOverall : List Cell
-  finishedOverall = finishedRun t (length es) (eventSlots es) .overall
+module _ (t : Table) (slots : length (t .rules) ≡ mostRules) (v : validTable t ≡ true) (c : Course) (cycle : Cycle (c .events)) where
+  sized : (over : Bool) (stands : ℕ → ℕ → Standing) (r : Run) → RunOf t c over stands r → Sized r
+  sized over stands r g =
+      record {
+        rules = ap (λ (u : Table). length (u .rules)) (g .table) ∙ slots;
+        events = ap length (g .events) ∙ slots-of (c .events) (cycle .most);
+        cells = g .cells;
+        overall = g .overall;
+        totals = g .totals;
+      }
 
-  pub finished-overall : length finishedOverall ≡ mostRules
-  unfolding finishedRun judgedOverall
-  finished-overall = overall-length _ _ idleOverall ∙ length-replicate mostRules idleCell
+  course-is : (over : Bool) (stands : ℕ → ℕ → Standing) (r : Run) → RunOf t c over stands r → courseOf r ≡ c
+  unfolding eventsOf
+  course-is over stands r g = rw (g .clock, g .count, g .events, first-events (c .events)) refl
 
-  pub finished-totals : length (finishedRun t (length es) (eventSlots es) .totals) ≡ mostRules
-  unfolding idleRun finishedRun
-  finished-totals = counted-length _ ∙ length-replicate mostRules noTotals
+  module _ (r : Run) (g : RunOf t c false (running t c) r) where
+    size : Sized r
+    size = sized false (running t c) r g
 
-  pub finished-unused : (k : ℕ) → t .count < k → k ≤ mostRules → storedTotals (finishedRun t (length es) (eventSlots es)) k ≡ noTotals
-  unfolding idleRun finishedRun
-  finished-unused k a b =
-      counted-kept _ k (omega arith) (omega (arith, length-replicate mostRules noTotals, b)) a ∙ replicated mostRules (k - 1) noTotals
+    answer : (call : Call) → callOf r call ≡ callAfter c r call
+    answer call = answer-is c r call (g .valid) (g .phase) (course-is false (running t c) r g) (g .count)
 
-  pub finished-unread : (k : ℕ) → 1 ≤ k → k ≤ mostRules → isOverallRule t k ≡ false → getD finishedOverall (k - 1) idleCell ≡ idleCell
-  unfolding finishedRun judgedOverall
-  finished-unread k low high o =
-      overall-kept (isOverallRule t) _ idleOverall k low (omega (arith, length-replicate mostRules idleCell)) o
-      ∙ replicated mostRules (k - 1) idleCell
+    -- with the events and the kept time of the next course
+    module _ (next : Course) (added : List Event) (goes : GoesOn c next added) where
+      abbrev unjudged : Run
+      unjudged = onward r (length (next .events)) (eventSlots (next .events)) (next .clock)
 
-  -- all idle before they are judged
-  abbrev before : Run
-  before = withEvents (idleRun t) (length es) (eventSlots es)
+      next-size : Sized unjudged
+      next-size =
+          onward-sized r size (length (next .events)) (eventSlots (next .events)) (next .clock) (slots-of (next .events) (goes .cycle .most))
 
-  before-idle : (k i : ℕ) → standingAt before k i ≡ Idle
-  unfolding withZero zeroIn idleRun
-  before-idle k zero = go (isOverallRule t k)
+      next-events : eventsOf unjudged ≡ next .events
+      unfolding eventsOf
+      next-events = first-events (next .events)
+
+      more : length (c .events) ≤ length (next .events)
+      more = omega (arith, ap length (goes .events), length-append (c .events) added)
+
+      next-valid : validRun (judgedRun unjudged) ≡ true
+      next-valid =
+          onward-valid r size (g .valid) (length (next .events)) (eventSlots (next .events)) (next .clock) (g .phase) (omega (arith, g .count, more)) events-valid (slots-of (next .events) (goes .cycle .most))
+        where
+          events-valid : validEvents (length (next .events)) (eventSlots (next .events)) ≡ true
+          events-valid =
+              unfold validEvents in
+              rw (first-events (next .events)) (both₃ (le-leb (length (next .events)) mostEvents (goes .cycle .most)) (goes .cycle .formed) (goes .cycle .order))
+
+      -- carried over or judged anew, a standing is what the next course says
+      carries : (k i : ℕ) → 1 ≤ k → k ≤ t .count → i ≤ mostEvents → carried (standingAt r k i) (running t next k i) ≡ running t next k i
+      unfolding carried
+      carries k i a b d = go (leb i (length (c .events))) refl
+        where
+          go : (b : Bool) → leb i (length (c .events)) ≡ b → carried (standingAt r k i) (running t next k i) ≡ running t next k i
+          go true q =
+              let l : i ≤ length (c .events) = leb-true i (length (c .events)) q in
+              rw (g .standings k i a b l) (carried-next (ruleAt t k) c next added i (rule-valid t slots v k a b) cycle goes l)
+          go false q =
+              let l : length (c .events) < i = leb-false i (length (c .events)) q in
+              let unused : inUse (t .count) (length (c .events)) (placeOf k i) ≡ false =
+              in-use k i a (omega arith) d (t .count) (length (c .events)) ∙ rw (lt-leb i (length (c .events)) l) (and-false (leb k (t .count))) in
+              let placed : placeOf k i < places = omega (arith, rules-within t v) in
+              let was-idle : standingAt r k i ≡ Idle = from-one _ _ i (omega arith) ∙ idle-standing (r .cells) k i (g .idle (placeOf k i) placed unused) in
+              rw was-idle refl
+
+      judged-next : (k i : ℕ) → standing (ruleAt (r .table) k) (eventsOf unjudged) (horizonOf unjudged) i ≡ running t next k i
+      judged-next k i =
+          ap (λ (l : List Event). standing (ruleAt (r .table) k) l (horizon (record { events = l; clock = next .clock })) i) next-events
+          ∙ ap (λ (u : Table). standing (ruleAt u k) (next .events) (horizon next) i) (g .table)
+
+      standings-next : (k i : ℕ) → 1 ≤ k → k ≤ t .count → i ≤ length (next .events) → standingAt (judgedRun unjudged) k i ≡ running t next k i
+      standings-next k i a b d =
+          let f : k ≤ r .table .count = rw (g .table) b in
+          let m : i ≤ mostEvents = omega (arith, d, goes .cycle .most) in
+          judged-standing unjudged next-size k a (omega (arith, rules-within t v)) i f d m
+          ∙ ap (carried (standingAt r k i)) (judged-next k i)
+          ∙ carries k i a b m
+
+      idle-next : (j : ℕ) → j < places → inUse (t .count) (length (next .events)) j ≡ false → getD (judgedRun unjudged .cells) j idleCell ≡ idleCell
+      idle-next j l u =
+          let w : j < length (r .cells) = let s = g .cells in omega arith in
+          judged-kept unjudged j w (ap (λ (u : Table). inUse (u .count) (length (next .events)) j) (g .table) ∙ u)
+          ∙ g .idle j l (in-use-fewer (t .count) (length (c .events)) (length (next .events)) j more u)
+
+      run-judged : RunOf t next false (running t next) (judgedRun unjudged)
+      unfolding judgedRun
+      run-judged =
+          record {
+            valid = next-valid;
+            phase = g .phase;
+            table = g .table;
+            count = refl;
+            events = refl;
+            cells = judged-length unjudged ∙ g .cells;
+            overall = judged-overall unjudged ∙ g .overall;
+            totals = counted-length _ ∙ g .totals;
+            clock = refl;
+            standings = standings-next;
+            idle = idle-next;
+            others = λ k a b o. judged-unread unjudged next-size k a b (rw (g .table) o) ∙ g .others k a b o;
+            unused = λ k a b. counted-kept _ k (omega arith) (omega (arith, g .totals, b)) (rw (g .table) a) ∙ g .unused k a b;
+          }
+
+    -- what an admitted call enters
+    filled : (e : Event) → length (c .events) < mostEvents → set (r .events) (r .count) e ≡ eventSlots (c .events ++ e ∷ [])
+    unfolding padded
+    filled e room =
+        let n : mostEvents - length (c .events) ≡ suc (mostEvents - length (c .events ++ e ∷ [])) = simp length-append (omega arith) in
+        rw (g .count, g .events, n)
+        (set-append-seam (c .events) emptySlot (replicate (mostEvents - length (c .events ++ e ∷ [])) emptySlot) e ∙ sym (append-assoc (c .events) (e ∷ []) (replicate (mostEvents - length (c .events ++ e ∷ [])) emptySlot)))
+
+    entered-is : (call : Call) → isAdmitted c call ≡ true → entered r call ≡ onward r (length (courseWith c call .events)) (eventSlots (courseWith c call .events)) (courseWith c call .clock)
+    unfolding entered courseWith isAdmitted
+    entered-is (takes e) h =
+        let room : length (c .events) < mostEvents = ltb-true (length (c .events)) mostEvents (take-admitted (length (c .events)) (horizon c) e h .2) in
+        ap₂ (withEvents r) (ap (λ (n : ℕ). n + 1) (g .count) ∙ sym (length-append (c .events) (e ∷ []))) (filled e room)
+        ∙ ap (onward r (length (c .events ++ e ∷ [])) (eventSlots (c .events ++ e ∷ []))) (g .clock)
+    entered-is (notices time) h = ap₂ (λ (n : ℕ) (l : List Event). onward r n l time) (g .count) (g .events)
+
+    -- admitted or not
+    abbrev after : Call → Course
+    after call = cond (isAdmitted c call) (courseWith c call) c
+
+    run-next : (call : Call) → RunOf t (after call) false (running t (after call)) (afterCall r (callOf r call))
+    run-next call = rw (answer call, run-after c r call) (go (isAdmitted c call) refl)
+      where
+        go : (b : Bool) → isAdmitted c call ≡ b → RunOf t (cond b (courseWith c call) c) false (running t (cond b (courseWith c call) c)) (cond b (judgedRun (entered r call)) r)
+        go true h = rw (entered-is call h) (run-judged (courseWith c call) (addedBy call) (goes-on c call cycle h))
+        go false h = g
+
+-- ---- all calls
+
+module _ (t : Table) (slots : length (t .rules) ≡ mostRules) (v : validTable t ≡ true) where
+  run-after-calls : (c : Course) (calls : List Call) (r : Run) → Cycle (c .events) → RunOf t c false (running t c) r → RunOf t (courseAfter c calls) false (running t (courseAfter c calls)) (afterCalls r calls)
+  unfolding courseAfter afterCalls
+  run-after-calls c [] r cycle g = g
+  run-after-calls c (call ∷ calls) r cycle g =
+      run-after-calls (after t slots v c cycle r g call) calls (afterCall r (callOf r call)) (go (isAdmitted c call) refl) (run-next t slots v c cycle r g call)
     where
-      go : (o : Bool) → cond o (overallIn idleOverall k) Idle ≡ Idle
-      go true = overall-idle k
-      go false = refl
-  before-idle k (suc i) = idle-everywhere places k (suc i)
+      go : (b : Bool) → isAdmitted c call ≡ b → Cycle (cond b (courseWith c call) c .events)
+      go true h = goes-on c call cycle h .cycle
+      go false h = cycle
 
-  pub finished-verdict : (k i : ℕ) → Placed k i → k ≤ t .count → i ≤ length es → standingAt (finishedRun t (length es) (eventSlots es)) k i ≡ verdict (ruleAt t k) es i
-  unfolding idleRun finishedRun judgedCells judgedOverall judgedAt judged carried
-  finished-verdict k i p a b =
-      change-at before (judgedAt false t (take (length es) (eventSlots es)) 0) size (length-replicate mostRules idleCell) k (p .0) (p .1) idle i a b (p .2)
-      ∙ ap (λ (s : Standing). carried s (verdict (ruleAt t k) (take (length es) (eventSlots es)) i)) (before-idle k i)
-      ∙ ap (λ (l : List Event). verdict (ruleAt t k) l i) first
+  run-started-is : started t ≡ newRun t
+  unfolding started startOf afterCall
+  run-started-is = rw (passed 11 (accepted (newRun t)) v)
+
+  run-grown : (calls : List Call) → RunOf t (course calls) false (running t (course calls)) (grown t calls)
+  run-grown calls =
+      unfold grown course in
+      rw run-started-is (run-after-calls (record { events = []; clock = 0 }) calls (newRun t) empty-cycle (unfold course courseAfter in run-started t v))
+
+-- ---- closing
+
+module _ (t : Table) (slots : length (t .rules) ≡ mostRules) (v : validTable t ≡ true) (c : Course) (cycle : Cycle (c .events)) (r : Run) (g : RunOf t c false (running t c) r) where
+  whole : Sized r
+  whole = sized t slots v c cycle false (running t c) r g
+
+  standings-closed : (k i : ℕ) → 1 ≤ k → k ≤ t .count → i ≤ length (c .events) → standingAt (closedRun r) k i ≡ finished t (c .events) k i
+  standings-closed k i a b d =
+      let n = g .count in
+      let f = cycle .most in
+      let l : k ≤ r .table .count = rw (g .table) b in
+      closed-standing r whole k a (omega (arith, rules-within t v)) i l (omega arith) (omega arith)
+      ∙ ap (λ (u : Table). closed (ruleAt u k) (eventsOf r) i (standingAt r k i)) (g .table)
+      ∙ ap (λ (l : Course). closed (ruleAt t k) (l .events) i (standingAt r k i)) (course-is t slots v c cycle false (running t c) r g)
+      ∙ ap (closed (ruleAt t k) (c .events) i) (g .standings k i a b d)
+      ∙ closed-is-verdict (ruleAt t k) (c .events) (horizon c) i
+
+  idle-closed : (j : ℕ) → j < places → inUse (t .count) (length (c .events)) j ≡ false → getD (closedRun r .cells) j idleCell ≡ idleCell
+  idle-closed j l u =
+      let w : j < length (r .cells) = let s = g .cells in omega arith in
+      closed-kept r j w (rw (g .table, g .count) u) ∙ g .idle j l u
+
+  run-closed : RunOf t c true (finished t (c .events)) (closedRun r)
+  unfolding closedRun
+  run-closed =
+      record {
+        valid = closed-run-valid r whole (g .valid);
+        phase = refl;
+        table = g .table;
+        count = g .count;
+        events = g .events;
+        cells = closed-length r ∙ g .cells;
+        overall = closed-overall r ∙ g .overall;
+        totals = counted-length _ ∙ g .totals;
+        clock = g .clock;
+        standings = standings-closed;
+        idle = idle-closed;
+        others = λ k a b o. closed-unread r whole k a b (rw (g .table) o) ∙ g .others k a b o;
+        unused = λ k a b. counted-kept _ k (omega arith) (omega (arith, g .totals, b)) (rw (g .table) a) ∙ g .unused k a b;
+      }
+
+-- ---- standing and totals
+
+-- a rule about the cycle has one activation, position 0
+one-activation : (rule : Rule) (es : List Event) → isOverall (rule .code) ≡ true → countBelow (activationAt rule es) (suc (length es)) ≡ 1
+unfolding countBelow
+one-activation rule es o = counted (length es)
+  where
+    none : (i : ℕ) → activationAt rule es (suc i) ≡ false
+    none i = activation-event rule es (suc i) (omega arith) ∙ unfold isActivation in rw o refl
+
+    counted : (n : ℕ) → countBelow (activationAt rule es) (suc n) ≡ 1
+    counted zero = rw (activation-zero rule es, o) refl
+    counted (suc n) = ap₂ (λ (m : ℕ) (b : Bool). m + bit b) (counted n) (none n)
+
+module _ (t : Table) (es : List Event) (clock : ℕ) (over : Bool) (stands : ℕ → ℕ → Standing) (r : Run) (g : RunOf t (record { events = es; clock = clock }) over stands r) where
+  pub answers : ((k i : ℕ) → not (isIdle (stands k i)) ≡ activationAt (ruleAt t k) es i) → Answers t es stands r
+  answers active =
+      record {
+        standing = λ k i a b p. standing-found r k i (g .valid) a (rw (g .table) b) (rw (g .table, g .count) p) ∙ ap accepted (g .standings k i a b (position-within t (length es) k i p));
+        totals = λ k a b. totals-found r k (g .valid) a (rw (g .table) b) ∙ ap accepted (same k a b);
+        fit = λ k. fits k;
+      }
     where
-      idle : isOverallRule t k ≡ false → verdict (ruleAt t k) (take (length es) (eventSlots es)) 0 ≡ Idle
-      idle o = only-idle _ (not-false _ (verdict-active (ruleAt t k) (take (length es) (eventSlots es)) 0 ∙ activation-zero (ruleAt t k) _ ∙ sym (overall-rule t k a) ∙ o))
+      same : (k : ℕ) → 1 ≤ k → k ≤ t .count → totalsIn r k ≡ totalsBy (stands k) (length es)
+      same k a b =
+          ap (totalsBy (standingAt r k)) (g .count)
+          ∙ totals-same (standingAt r k) (stands k) (length es) (λ i d. g .standings k i a b d)
 
-  -- past the events and the rules all is idle
-  pub finished-rest : (k i : ℕ) → 1 ≤ k → k ≤ mostRules → i ≤ mostEvents → ((t .count < k) ⊎ (length es < i)) → standingAt (finishedRun t (length es) (eventSlots es)) k i ≡ Idle
-  unfolding idleRun finishedRun judgedCells judgedOverall
-  finished-rest k i a b c u =
-      ⊎-elim
-      (λ l. change-none before (judgedAt false t (take (length es) (eventSlots es)) 0) size (length-replicate mostRules idleCell) k a b i l c)
-      (λ l. change-past before (judgedAt false t (take (length es) (eventSlots es)) 0) size (length-replicate mostRules idleCell) k a b i l c)
-      u
-      ∙ before-idle k i
+      fits : (k : ℕ) → Fits (ruleAt t k) es (totalsBy (stands k) (length es))
+      fits k =
+          let counted = totals-activations (stands k) (activationAt (ruleAt t k) es) (length es) (active k) in
+          record { sum = totals-sum (stands k) (length es); activations = counted; one = λ o. counted ∙ one-activation (ruleAt t k) es o }
 
--- ---- the two runs
+-- ---- the claim
 
--- a rule about the cycle is one of the table
-rule-within : (t : Table) (k : ℕ) → isOverallRule t k ≡ true → k ≤ t .count
-unfolding isOverallRule
-rule-within t k o = leb-true k (t .count) (and-left (leb k (t .count)) (isOverall (ruleAt t k .code)) o)
+pub every-calls : EveryCalls
+every-calls t calls slots v =
+    let c : Course = course calls in
+    let r : Run = grown t calls in
+    let cycle : Cycle (c .events) = cycle-of-taken calls in
+    let g : RunOf t c false (running t c) r = run-grown t slots v calls in
+    let f : RunOf t c true (finished t (c .events)) (closedRun r) = run-closed t slots v c cycle r g in
+    record {
+      run = g;
+      answer = answer t slots v c cycle r g;
+      accepts = λ call. ap isAccepted (answer t slots v c cycle r g call) ∙ accepted-admitted c r call;
+      answers = answers t (c .events) (c .clock) false (running t c) r g (λ k i. standing-active (ruleAt t k) (c .events) i (horizon c));
+      close = unfold closeOf in passed 11 _ (g .valid) ∙ passed 9 _ (ap not (g .phase));
+      closed-run = f;
+      closed-answers = answers t (c .events) (c .clock) true (finished t (c .events)) (closedRun r) f (λ k i. verdict-active (ruleAt t k) (c .events) i);
+      judged-once = sym (running-is t v c (cycle .most) r g);
+      closed-once = sym (finished-is t v c (cycle .most) (closedRun r) f);
+      kept = λ k i d. sym (closed-is-verdict (ruleAt t k) (c .events) (horizon c) i) ∙ closed-decided (ruleAt t k) (c .events) i (running t c k i) d;
+    }
 
-module _ (t : Table) (slots : length (t .rules) ≡ mostRules) (valid : validTable t ≡ true) (es : List Event) (cycle : Cycle es) where
-  -- the closed run of these events
-  closed : RunOf t es true (finished t es) (closedRun (grown t es))
-  closed =
-      subst (λ (l : List Event). RunOf t l true (finished t l) (closedRun (grown t es))) (taken-cycle es cycle)
-      (takes t es slots valid .closed-run)
+-- ---- a whole cycle without notices
 
-  alike : (k i : ℕ) → 1 ≤ k → k ≤ t .count → i ≤ length es → standingAt (finishedRun t (length es) (eventSlots es)) k i ≡ standingAt (closedRun (grown t es)) k i
-  alike k i a b d =
-      finished-verdict t es k i (a, omega (arith, b, rules-within t valid), omega (arith, d, cycle .most)) b d ∙ sym (closed .standings k i a b d)
+module _ (t : Table) (slots : length (t .rules) ≡ mostRules) (v : validTable t ≡ true) (es : List Event) (cycle : Cycle es) where
+  all-taken : course (map takes es) ≡ record { events = es; clock = 0 }
+  all-taken = course-of-cycle es cycle
 
-  same : finishedCells t es ≡ closedRun (grown t es) .cells
-  unfolding withZero
-  same =
-      same-cells (t .count) (length es) (finishedCells t es) (closedRun (grown t es) .cells)
-      (record { size = finished-length t es; idle = finished-idle t es })
-      (record { size = closed .cells; idle = closed .idle })
-      (λ k i a b c d. sym (from-one _ _ i c) ∙ alike k i a b d ∙ from-one _ _ i c)
+  pub running-is-grown : runningRun t (length es) (eventSlots es) 0 ≡ grown t (map takes es)
+  running-is-grown =
+      sym (subst (λ (c : Course). grown t (map takes es) ≡ runningRun t (length (c .events)) (eventSlots (c .events)) (c .clock)) all-taken
+      (every-calls t (map takes es) slots v .judged-once))
 
-  same-zero : finishedOverall t es ≡ closedRun (grown t es) .overall
-  same-zero =
-      same-overall (isOverallRule t) (finishedOverall t es) (closedRun (grown t es) .overall) (finished-overall t es) (closed .overall) (finished-unread t es) (closed .others)
-      (λ k a b o.
-      let c : k ≤ t .count = rule-within t k o in
-      sym (zero-overall (finishedRun t (length es) (eventSlots es)) k (unfold idleRun finishedRun in o)) ∙ alike k 0 a c zero-le ∙ zero-overall (closedRun (grown t es)) k (rw (closed .table) o))
-
-  pub finished-is-grown : finishedRun t (length es) (eventSlots es) ≡ closedRun (grown t es)
-  unfolding idleRun finishedRun closedRun
+  pub finished-is-grown : finishedRun t (length es) (eventSlots es) ≡ closedRun (grown t (map takes es))
+  unfolding finishedRun idleRun
   finished-is-grown =
-      ap₂ (run t (length es) (eventSlots es)) same same-zero
-      ∙ ap (λ (l : List Event). run t (length es) l (next .cells) (next .overall)) (sym (closed .events))
-      ∙ ap (λ (n : ℕ). run t n (next .events) (next .cells) (next .overall)) (sym (closed .count))
-      ∙ ap (λ (u : Table). run u (next .count) (next .events) (next .cells) (next .overall)) (sym (closed .table))
-      ∙ ap (withTotals next) (sym (stored-recounted next (closed .valid) (closed .totals) (λ k a b. closed .unused k (rw (closed .table) at a) b)))
-    where
-      next : Run
-      next = closedRun (grown t es)
+      sym (subst (λ (c : Course). closedRun (grown t (map takes es)) ≡ withClock (finishedRun t (length (c .events)) (eventSlots (c .events))) (c .clock)) all-taken
+      (every-calls t (map takes es) slots v .closed-once))
 
-      run : Table → ℕ → List Event → List Cell → List Cell → Run
-      run u n l cells overall = counted (asClosed (withStandings (withEvents (idleRun u) n l) cells overall))
+  pub finished-run : RunOf t (record { events = es; clock = 0 }) true (finished t es) (finishedRun t (length es) (eventSlots es))
+  finished-run =
+      rw finished-is-grown
+      (subst (λ (c : Course). RunOf t c true (finished t (c .events)) (closedRun (grown t (map takes es)))) all-taken
+      (every-calls t (map takes es) slots v .closed-run))
 
-  pub finished-valid : validRun (finishedRun t (length es) (eventSlots es)) ≡ true
-  finished-valid = ap validRun finished-is-grown ∙ closed .valid
+  pub finished-answers : Answers t es (finished t es) (finishedRun t (length es) (eventSlots es))
+  finished-answers =
+      answers t es 0 true (finished t es) (finishedRun t (length es) (eventSlots es)) finished-run (λ k i. verdict-active (ruleAt t k) es i)

@@ -31,7 +31,7 @@ use Rattle.judge.specs.Cells.{judged, judgedAt, judgedCells, judgedOverall}
 use Rattle.run.specs.declared.Run.{Run}
 use Rattle.run.specs.Records.{eventsOf, horizonOf, standingAt, withStandings, validStanding, validAt, validRow, eventsJudged, validStandings, validZero, validOverall, Sized}
 use Rattle.run.specs.Start.{idleRun, newRun}
-use Rattle.run.specs.Take.{judgedRun}
+use Rattle.run.specs.Calls.{judgedRun}
 use Rattle.run.specs.Close.{closedAt, closedCells, closedOverall, closedRun}
 
 -- ---- rules about the cycle

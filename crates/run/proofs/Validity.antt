@@ -1,4 +1,4 @@
--- Start gives a valid record, and take and close keep one valid.
+-- Start gives a valid record, and take, notice and close keep one valid.
 --
 -- The table stays. Take adds a well-formed event that is not earlier than the last. A judged
 -- standing names no position past the events, a carried one none past those before, and past the
@@ -6,7 +6,7 @@
 use mathlib.Core.Path.{_≡_, refl, sym, ap, subst, _∙_}
 use mathlib.Core.Bool.{Bool, true, false, not, cond, _||_, true≢false, false≢true}
 use mathlib.Core.List.{List, [], _∷_}
-use Prim.Native.Nat.{ℕ, zero, suc, _+_, _/_, _%_, _≤_, _<_, zero-le}
+use Prim.Native.Nat.{ℕ, zero, suc, _+_, _/_, _%_, max, _≤_, _<_, zero-le}
 use native.Mathlib.Numerals.{add-one}
 use native.Mathlib.Omega.{arith}
 use borrow.Author.Tests.{le-leb, lt-leb, leb-true, leb-false, ltb-true, not-true}
@@ -23,7 +23,7 @@ use Rattle.declare.specs.declared.Standing.{Standing}
 use Rattle.declare.specs.declared.Standing.the-variants.{Idle, Open, Fulfilled, Violated}
 use Rattle.declare.specs.Lists.{all}
 use Rattle.declare.specs.Limits.{mostRules, mostEvents}
-use Rattle.declare.specs.Events.{wellFormed, nonFallingFrom, nonFalling}
+use Rattle.declare.specs.Events.{wellFormed, nonFallingFrom, nonFalling, lastTime}
 use Rattle.declare.specs.Overall.{isOverall}
 use Rattle.declare.specs.Rules.{ruleAt, rulesOf, validTable}
 use Rattle.declare.specs.Slots.{eventSlots, tableOf, emptyTable}
@@ -33,7 +33,7 @@ use Rattle.declare.specs.Verdicts.{target, decided, formulaOf, fulfilledIf, dec
 use Rattle.declare.specs.Continuations.{horizon}
 use Rattle.declare.specs.Reachability.{undecided, standing}
 use Rattle.declare.specs.Answers.{isAccepted, afterCall}
-use Rattle.declare.specs.Steps.{carried, closing, closed, admits}
+use Rattle.declare.specs.Steps.{carried, closing, closed, Call, takes, notices, admits}
 use Rattle.declare.proofs.Booleans.{both, both₃, both₄, and₂, and₃}
 use Rattle.declare.proofs.Zero.{activation-zero, activation-event, closing-zero, closing-event}
 use Rattle.declare.proofs.Targets.{target-within}
@@ -42,19 +42,19 @@ use Rattle.declare.proofs.Carried.{only-idle, decided-active}
 use Rattle.declare.proofs.Tables.{rules-within}
 use Rattle.declare.proofs.Lists.{all-parts, falls-more}
 use Rattle.declare.proofs.Answers.{required, of-of, after-cases}
-use Rattle.declare.proofs.Steps.{admitted, closed-decided}
+use Rattle.declare.proofs.Steps.{take-admitted, closed-decided}
 use Rattle.standings.specs.Places.{standingIn, withZero}
 use Rattle.standings.specs.Totals.{noTotals}
 use Rattle.standings.proofs.Same.{standing-at}
 use Rattle.run.specs.declared.Run.{Run}
-use Rattle.run.specs.Records.{eventsOf, horizonOf, standingAt, validEvents, validStanding, validAt, eventsJudged, validZero, validRun, Sized}
+use Rattle.run.specs.Records.{eventsOf, horizonOf, standingAt, withEvents, withClock, validEvents, validStanding, validAt, eventsJudged, validZero, validRun, Sized}
 use Rattle.run.specs.Start.{idleRun, newRun, startOf, started}
-use Rattle.run.specs.Take.{appended, judgedRun, takeOf}
+use Rattle.run.specs.Calls.{entered, judgedRun, callOf}
 use Rattle.run.specs.Close.{IdlePast, closedRun, closeOf}
-use Rattle.run.proofs.Bounds.{Valid, valid-parts}
+use Rattle.run.proofs.Bounds.{Valid, events-within, valid-parts}
 use Rattle.run.proofs.Checks.{judged-most}
-use Rattle.run.proofs.Horizons.{events-appended}
-use Rattle.run.proofs.Guards.{take-cases, close-cases}
+use Rattle.run.proofs.Horizons.{events-entered}
+use Rattle.run.proofs.Guards.{call-cases, close-cases}
 use Rattle.run.proofs.Stored.{counted-valid}
 use Rattle.run.proofs.Places.{start-idle, start-zero, judged-standing, judged-past, closed-standing, closed-past, validHere, idle-anywhere, standings-each, each-standings}
 
@@ -279,7 +279,16 @@ started-valid t = started-cases (λ s. validRun s ≡ true) t (start-valid empty
     empty : validTable emptyTable ≡ true
     empty = unfold validTable rulesOf emptyTable tableOf all in refl
 
--- ---- close, and take
+-- ---- close, take and notice
+
+-- with other events and another kept time
+abbrev pub onward : Run → ℕ → List Event → ℕ → Run
+onward r n events clock = withClock (withEvents r n events) clock
+
+module _ (r : Run) (size : Sized r) where
+  pub onward-sized : (n : ℕ) (events : List Event) (clock : ℕ) → length events ≡ mostEvents → Sized (onward r n events clock)
+  onward-sized n events clock slots =
+      record { rules = size .rules; events = slots; cells = size .cells; overall = size .overall; totals = size .totals }
 
 module _ (r : Run) (size : Sized r) (valid : validRun r ≡ true) where
   abbrev v : Valid r
@@ -318,29 +327,29 @@ module _ (r : Run) (size : Sized r) (valid : validRun r ≡ true) where
             let l : r .count < i = leb-false i (r .count) q in
             rw (closed-past r size k k-low row i l i-high) (past-here rule (r .closed) true (r .count) (r .count) i s l l old)
 
-    -- with an event more
-    judged-at : (e : Event) → r .closed ≡ false → r .count < mostEvents → validHere (r .closed) rule (r .count + 1) i (standingAt (judgedRun (appended r e)) k i) ≡ true
-    unfolding rule s appended
-    judged-at e runs room = go (leb i (r .count + 1)) refl
+    -- judged on no fewer events, after any notice
+    judged-at : (n : ℕ) (events : List Event) (clock : ℕ) → r .closed ≡ false → r .count ≤ n → n ≤ mostEvents → length events ≡ mostEvents → validHere (r .closed) rule n i (standingAt (judgedRun (onward r n events clock)) k i) ≡ true
+    unfolding rule s
+    judged-at n events clock runs more few slots = go (leb i n) refl
       where
         next : Run
-        next = appended r e
+        next = onward r n events clock
 
         next-size : Sized next
-        next-size = record { rules = size .rules; events = length-set (r .events) (r .count) e ∙ size .events; cells = size .cells; overall = size .overall; totals = size .totals }
+        next-size = onward-sized r size n events clock slots
 
-        longer : length (eventsOf next) ≡ r .count + 1
-        longer = unfold eventsOf in length-take-le (r .count + 1) (set (r .events) (r .count) e) (simp length-set (omega (arith, size .events)))
+        long-next : length (eventsOf next) ≡ n
+        long-next = unfold eventsOf in length-take-le n events (omega arith)
 
-        go : (t : Bool) → leb i (r .count + 1) ≡ t → validHere (r .closed) rule (r .count + 1) i (standingAt (judgedRun next) k i) ≡ true
+        go : (t : Bool) → leb i n ≡ t → validHere (r .closed) rule n i (standingAt (judgedRun next) k i) ≡ true
         go true q =
-            let l : i ≤ r .count + 1 = leb-true i (r .count + 1) q in
+            let l : i ≤ n = leb-true i n q in
             rw (judged-standing next next-size k k-low row i k-high l i-high)
-            (ap (λ (n : ℕ). validHere (r .closed) rule n i (carried s (standing rule (eventsOf next) (horizonOf next) i))) (sym longer)
-            ∙ judged-here rule (eventsOf next) (r .closed) (r .count) (horizonOf next) i s runs (omega (arith, longer)) (omega (arith, longer)) old)
+            (ap (λ (m : ℕ). validHere (r .closed) rule m i (carried s (standing rule (eventsOf next) (horizonOf next) i))) (sym long-next)
+            ∙ judged-here rule (eventsOf next) (r .closed) (r .count) (horizonOf next) i s runs (omega (arith, long-next)) (omega (arith, long-next)) old)
         go false q =
-            let l : r .count + 1 < i = leb-false i (r .count + 1) q in
-            rw (judged-past next next-size k k-low row i l i-high) (past-here rule (r .closed) (r .closed) (r .count) (r .count + 1) i s (omega arith) l old)
+            let l : n < i = leb-false i n q in
+            rw (judged-past next next-size k k-low row i l i-high) (past-here rule (r .closed) (r .closed) (r .count) n i s (omega arith) l old)
 
   pub closed-run-valid : validRun (closedRun r) ≡ true
   closed-run-valid =
@@ -351,25 +360,31 @@ module _ (r : Run) (size : Sized r) (valid : validRun r ≡ true) where
   pub close-valid : validRun (afterCall r (closeOf r)) ≡ true
   close-valid = close-cases (λ s. validRun s ≡ true) r valid closed-run-valid
 
-  module _ (e : Event) where
-    events-valid : wellFormed e ≡ true → leb (horizonOf r) (e .time) ≡ true → r .count < mostEvents → validEvents (r .count + 1) (set (r .events) (r .count) e) ≡ true
-    unfolding validEvents eventsOf appended horizon
-    events-valid well follows room =
-        let es : List Event = take (r .count) (r .events) in
-        let v : (leb (r .count) mostEvents ≡ true) × (all wellFormed es ≡ true) × (nonFalling es ≡ true) = and₃ (v .events) in
-        let n = size .events in
-        rw (events-appended r e (omega arith))
-        (both₃ (le-leb (r .count + 1) mostEvents (omega arith)) (all-parts wellFormed es (e ∷ []) ∙ both (v .1) (unfold all in both well refl))
-        (falls-more es e ∙ both (v .2) follows))
+  pub onward-valid : (n : ℕ) (events : List Event) (clock : ℕ) → r .closed ≡ false → r .count ≤ n → validEvents n events ≡ true → length events ≡ mostEvents → validRun (judgedRun (onward r n events clock)) ≡ true
+  unfolding judgedRun validRun
+  onward-valid n events clock runs more valid-events slots =
+      let few : n ≤ mostEvents = events-within n events valid-events in
+      let q = each-standings (r .closed) (judgedRun (onward r n events clock)) (λ k i a b d. unfold rule in judged-at k i a b d n events clock runs more few slots) in
+      both (both₄ (v .table) valid-events (q .0) (q .1)) (counted-valid _ (size .totals) (v .rules-fit) few)
 
-    pub taken-run-valid : r .closed ≡ false → isAccepted (admits (r .count) (horizonOf r) e) ≡ true → validRun (judgedRun (appended r e)) ≡ true
-    unfolding judgedRun appended validRun
-    taken-run-valid runs a =
-        let p = admitted (r .count) (horizonOf r) e a in
-        let room : r .count < mostEvents = ltb-true (r .count) mostEvents (p .2) in
-        let q = each-standings (r .closed) (judgedRun (appended r e)) (λ k i a b d. unfold rule in judged-at k i a b d e runs room) in
-        both (both₄ (v .table) (events-valid (p .0) (p .1) room) (q .0) (q .1))
-        (counted-valid _ (size .totals) (v .rules-fit) (omega arith))
+  events-valid : (e : Event) → wellFormed e ≡ true → leb (horizonOf r) (e .time) ≡ true → r .count < mostEvents → validEvents (r .count + 1) (set (r .events) (r .count) e) ≡ true
+  unfolding validEvents eventsOf entered horizon
+  events-valid e well follows room =
+      let es : List Event = take (r .count) (r .events) in
+      let v : (leb (r .count) mostEvents ≡ true) × (all wellFormed es ≡ true) × (nonFalling es ≡ true) = and₃ (v .events) in
+      let n = size .events in
+      let past : leb (lastTime es) (e .time) ≡ true = le-leb (lastTime es) (e .time) (omega (arith, leb-true (max (lastTime es) (r .clock)) (e .time) follows)) in
+      rw (events-entered r e (omega arith))
+      (both₃ (le-leb (r .count + 1) mostEvents (omega arith)) (all-parts wellFormed es (e ∷ []) ∙ both (v .1) (unfold all in both well refl))
+      (falls-more es e ∙ both (v .2) past))
 
-    pub take-valid : validRun (afterCall r (takeOf r e)) ≡ true
-    take-valid = take-cases (λ s. validRun s ≡ true) r e valid taken-run-valid
+  pub accepted-valid : (call : Call) → r .closed ≡ false → isAccepted (admits (r .count) (horizonOf r) call) ≡ true → validRun (judgedRun (entered r call)) ≡ true
+  unfolding entered
+  accepted-valid (takes e) runs a =
+      let p = take-admitted (r .count) (horizonOf r) e a in
+      let room : r .count < mostEvents = ltb-true (r .count) mostEvents (p .2) in
+      onward-valid (r .count + 1) (set (r .events) (r .count) e) (r .clock) runs (omega arith) (events-valid e (p .0) (p .1) room) (length-set (r .events) (r .count) e ∙ size .events)
+  accepted-valid (notices t) runs a = onward-valid (r .count) (r .events) t runs (omega arith) (v .events) (size .events)
+
+  pub call-valid : (call : Call) → validRun (afterCall r (callOf r call)) ≡ true
+  call-valid call = call-cases (λ s. validRun s ≡ true) r call valid (accepted-valid call)

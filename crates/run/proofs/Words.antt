@@ -27,7 +27,7 @@ use Rattle.declare.specs.Templates.{polarityOf}
 use Rattle.declare.specs.Verdicts.{decided, verdict}
 use Rattle.declare.specs.Standings.{isIdle, isOpen}
 use Rattle.declare.specs.Answers.{_>>_, require, afterCall}
-use Rattle.declare.specs.Steps.{carried, closed}
+use Rattle.declare.specs.Steps.{carried, closed, takes, notices}
 use Rattle.declare.specs.Words.{NeverFall}
 use Rattle.declare.proofs.Booleans.{both, both₃, both₄, and₃}
 use Rattle.declare.proofs.Zero.{not-overall, activation-zero, closing-zero, closing-event}
@@ -37,17 +37,18 @@ use Rattle.declare.proofs.Words.{positive, negative, words as verdict-words}
 use Rattle.declare.proofs.Lists.{all-taken, all-each, each-all, replicated}
 use Rattle.standings.specs.Places.{places, idleCell}
 use Rattle.standings.specs.Totals.{noTotals}
+use Rattle.judge.specs.Cells.{judged}
 use Rattle.run.specs.declared.Run.{Run}
 use Rattle.run.specs.Records.{eventsOf, standingAt, storedTotals, validEvents, validStanding, validAt, validRun, Sized}
 use Rattle.run.specs.Start.{idleRun, newRun, startOf, started}
-use Rattle.run.specs.Take.{appended, judgedRun}
+use Rattle.run.specs.Calls.{entered, judgedRun}
 use Rattle.run.specs.Close.{closedRun, finishedRun}
-use Rattle.run.specs.Words.{Events, MayStand, Valid, Placed, unread, Unread, Unused, Starts, NoRules, Appends, InUse, NotInUse, standingNow, KeepsRest, Judges, codeAt, Closes, Finishes, Words}
+use Rattle.run.specs.Words.{Events, MayStand, Valid, Placed, unread, Unread, Unused, Starts, NoRules, Appends, Keeps, InUse, NotInUse, standingNow, KeepsRest, Judges, codeAt, Closes, Finishes, Words}
 use Rattle.run.proofs.Bounds.{valid-parts}
 use Rattle.run.proofs.Places.{overall-rule, zero-other, start-idle, start-zero, start-unread, start-overall, judged-length, closed-length, judged-overall, closed-overall, judged-standing, judged-past, judged-none, judged-unread, closed-standing, closed-past, closed-none, closed-unread, validHere, standings-each, each-standings}
 use Rattle.run.proofs.Stored.{stored-is-counted, stored-valid, counted-length, counted-kept}
-use Rattle.run.proofs.Grown.{finished-length, finished-overall, finished-totals, finished-unused, finished-unread, finished-verdict, finished-rest}
-use Rattle.run.proofs.Validity.{idle-valid, at-valid, at-idle, taken-valid, past-valid, here-judged, here-idle, here-event, idle-here, zero-here, zero-valid, not-idle, started-valid, take-valid, close-valid}
+use Rattle.run.proofs.Whole.{whole-length, whole-overall, whole-unread, whole-judged, whole-rest, finished-totals, finished-unused}
+use Rattle.run.proofs.Validity.{idle-valid, at-valid, at-idle, taken-valid, past-valid, here-judged, here-idle, here-event, idle-here, zero-here, zero-valid, not-idle, started-valid, call-valid, close-valid}
 
 -- ---- the events of a record
 
@@ -195,6 +196,7 @@ new-starts t =
       others = λ k u. start-unread t k (u .0) (u .1) (u .2);
       totals = counted-length _ ∙ length-replicate mostRules noTotals;
       unused = λ k u. counted-kept _ k (omega arith) (omega (arith, length-replicate mostRules noTotals, u .1)) (u .0) ∙ replicated mostRules (k - 1) noTotals;
+      clock = refl;
     }
 
 starts : (t : Table) → validTable t ≡ true → Starts t (started t)
@@ -214,11 +216,16 @@ refuses : (t : Table) → validTable t ≡ false → (none : Table) × NoRules n
 unfolding started startOf _>>_ require afterCall
 refuses t v = (emptyTable, none-has, rw v (new-starts emptyTable))
 
--- ---- take and close
+-- ---- take, notice and close
+
+keeps-time : (r : Run) (time : ℕ) → Keeps r time (entered r (notices time))
+unfolding entered
+keeps-time r time =
+    record { phase = refl; table = refl; count = refl; events = refl; cells = refl; overall = refl; totals = refl; clock = refl }
 
 module _ (r : Run) (size : Sized r) where
-  appends : (e : Event) → r .count < mostEvents → Appends r e (appended r e)
-  unfolding appended eventAt
+  appends : (e : Event) → r .count < mostEvents → Appends r e (entered r (takes e))
+  unfolding entered eventAt
   appends e room =
       record {
         phase = refl;
@@ -232,6 +239,7 @@ module _ (r : Run) (size : Sized r) where
         cells = refl;
         overall = refl;
         totals = refl;
+        clock = refl;
       }
 
   module _ (k i : ℕ) where
@@ -281,16 +289,16 @@ module _ (r : Run) (size : Sized r) where
         go false b a c = closed-rest (p, inl (leb-false k (r .table .count) a))
 
   -- the arrays, and what else stays
-  keeps : (next : Run) → next .table ≡ r .table → next .count ≡ r .count → next .events ≡ r .events → length (next .cells) ≡ length (r .cells) → length (next .overall) ≡ length (r .overall) → ((k i : ℕ) → NotInUse r k i → standingAt next k i ≡ standingAt r k i) → ((k : ℕ) → Unread r k → unread next k ≡ unread r k) → length (next .totals) ≡ length (r .totals) → ((k : ℕ) → Unused r k → storedTotals next k ≡ storedTotals r k) → KeepsRest r next
-  keeps next t n es l m f g s u =
-      record { table = t; count = n; events = es; cells = l ∙ size .cells; overall = m ∙ size .overall; standings = f; others = g; totals = s ∙ size .totals; unused = u }
+  keeps : (next : Run) → next .table ≡ r .table → next .count ≡ r .count → next .events ≡ r .events → next .clock ≡ r .clock → length (next .cells) ≡ length (r .cells) → length (next .overall) ≡ length (r .overall) → ((k i : ℕ) → NotInUse r k i → standingAt next k i ≡ standingAt r k i) → ((k : ℕ) → Unread r k → unread next k ≡ unread r k) → length (next .totals) ≡ length (r .totals) → ((k : ℕ) → Unused r k → storedTotals next k ≡ storedTotals r k) → KeepsRest r next
+  keeps next t n es c l m f g s u =
+      record { table = t; count = n; events = es; clock = c; cells = l ∙ size .cells; overall = m ∙ size .overall; standings = f; others = g; totals = s ∙ size .totals; unused = u }
 
   judges : Judges r (judgedRun r)
   unfolding judgedRun carried
   judges =
       record {
         phase = refl;
-        rest = keeps (judgedRun r) refl refl refl (judged-length r) (judged-overall r) judged-rest (λ k u. judged-unread r size k (u .0) (u .1) (u .2)) (counted-length _) (λ k u. counted-kept _ k (omega arith) (omega (arith, size .totals, u .1)) (u .0));
+        rest = keeps (judgedRun r) refl refl refl refl (judged-length r) (judged-overall r) judged-rest (λ k u. judged-unread r size k (u .0) (u .1) (u .2)) (counted-length _) (λ k u. counted-kept _ k (omega arith) (omega (arith, size .totals, u .1)) (u .0));
         fulfilled = λ k i j u e. judged-from k i u e;
         violated = λ k i j u e. judged-from k i u e;
         «open» = λ k i u e. judged-from k i u e;
@@ -316,7 +324,7 @@ module _ (r : Run) (size : Sized r) where
   closes =
       record {
         phase = refl;
-        rest = keeps (closedRun r) refl refl refl (closed-length r) (closed-overall r) closed-rest (λ k u. closed-unread r size k (u .0) (u .1) (u .2)) (counted-length _) (λ k u. counted-kept _ k (omega arith) (omega (arith, size .totals, u .1)) (u .0));
+        rest = keeps (closedRun r) refl refl refl refl (closed-length r) (closed-overall r) closed-rest (λ k u. closed-unread r size k (u .0) (u .1) (u .2)) (counted-length _) (λ k u. counted-kept _ k (omega arith) (omega (arith, size .totals, u .1)) (u .0));
         violated = λ k i u o a b. closed-open k i u o (omega arith) (positive (codeAt r k) a b);
         fulfilled = λ k i u o a b. closed-open k i u o b (negative (codeAt r k) a b);
         overall = closed-zero;
@@ -333,26 +341,28 @@ finishes t es =
       table = refl;
       count = refl;
       events = refl;
-      cells = finished-length t es;
-      overall = finished-overall t es;
-      verdicts = λ k i u. finished-verdict t es k i (u .0) (u .1) (u .2);
-      others = λ k i u. finished-rest t es k i (u .0 .0) (u .0 .1) (u .0 .2) (u .1);
-      unread-idle = λ k u. finished-unread t es k (u .0) (u .1) (u .2);
+      cells = whole-length t es false 0;
+      overall = whole-overall t es false 0;
+      verdicts = λ k i u. unfold judged in whole-judged t es false 0 k i (u .0) (u .1) (u .2);
+      others = λ k i u. whole-rest t es false 0 k i (u .0 .0) (u .0 .1) (u .0 .2) (u .1);
+      unread-idle = λ k u. whole-unread t es false 0 k (u .0) (u .1) (u .2);
       totals = finished-totals t es;
       unused = λ k u. finished-unused t es k (u .0) (u .1);
+      clock = refl;
     }
 
 pub words : Words
 words =
     record {
       started-valid = started-valid;
-      take-valid = take-valid;
+      call-valid = call-valid;
       close-valid = close-valid;
       events = events-are;
       valid = λ r size. (valid→ r size, valid← r size);
       starts = starts;
       refuses = refuses;
       appends = λ r e size room. appends r size e room;
+      keeps = keeps-time;
       judges = judges;
       closes = closes;
       finishes = finishes;

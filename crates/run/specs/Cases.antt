@@ -19,7 +19,7 @@ use Rattle.standings.specs.Totals.{totalsBy, idleTotals}
 use Rattle.run.specs.declared.Run.{Run}
 use Rattle.run.specs.Records.{standingAt, totalsIn, storedTotals, withTotals, counted, validRun}
 use Rattle.run.specs.Start.{started}
-use Rattle.run.specs.Take.{judgedRun}
+use Rattle.run.specs.Calls.{judgedRun}
 use Rattle.run.specs.Close.{closedRun, finishedRun}
 use Rattle.run.specs.Queries.{oneOf, isPosition}
 
@@ -57,6 +57,7 @@ recordWith closed rules k events n standings zeros =
       cells = cellsOf standings;
       overall = cellsOf zeros;
       totals = idleTotals;
+      clock = 0;
     })
 
 abbrev pub recordOf : Bool → List Rule → ℕ → List Event → ℕ → List Standing → Run

@@ -1,4 +1,4 @@
--- The call close; and a finished cycle, closed at once.
+-- The call close; and a whole cycle judged at once, running or closed.
 use mathlib.Core.Path.{_≡_}
 use mathlib.Core.Bool.{false, not}
 use mathlib.Core.List.{List}
@@ -19,8 +19,9 @@ use Rattle.standings.specs.Places.{idleCell, idleCells, idleOverall, changed, c
 use Rattle.standings.specs.Totals.{rowTotals}
 use Rattle.judge.specs.Cells.{judgedCells, judgedOverall}
 use Rattle.run.specs.declared.Run.{Run}
-use Rattle.run.specs.Records.{eventsOf, withEvents, withStandings, asClosed, counted, validRun}
+use Rattle.run.specs.Records.{eventsOf, withEvents, withClock, withStandings, asClosed, counted, validRun}
 use Rattle.run.specs.Start.{idleRun}
+use Rattle.run.specs.Calls.{judgedRun}
 
 -- "close turns open into ..; other standings it keeps": what the standing of rule k's position i
 -- becomes
@@ -57,7 +58,11 @@ closeOf r = do
   require (not (r .closed)) 9
   accepted (closedRun r)
 
--- the closed run of a table and the events of a whole cycle: each standing is judged once
+-- the run of a table, the events of a whole cycle and a kept time: each standing is judged once
+unfoldable pub runningRun : Table → ℕ → List Event → ℕ → Run
+runningRun t n events clock = judgedRun (withClock (withEvents (idleRun t) n events) clock)
+
+-- and the closed one, whose kept time is 0
 unfoldable pub finishedRun : Table → ℕ → List Event → Run
 finishedRun t n events =
     counted

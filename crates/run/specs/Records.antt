@@ -16,7 +16,7 @@ use Rattle.declare.specs.Overall.{isOverall}
 use Rattle.declare.specs.Rules.{ruleAt, isOverallRule, validTable}
 use Rattle.declare.specs.declared.Table.{Table}
 use Rattle.declare.specs.Standings.{isIdle}
-use Rattle.declare.specs.Continuations.{horizon}
+use Rattle.declare.specs.Continuations.{Course, horizon}
 use Rattle.standings.specs.declared.Cell.{Cell}
 use Rattle.standings.specs.declared.totals.Totals.{Totals}
 use Rattle.standings.specs.Places.{places, standingIn, overallIn, zeroIn, withZero}
@@ -29,9 +29,13 @@ use Rattle.run.specs.declared.Run.{Run}
 unfoldable pub eventsOf : Run → List Event
 eventsOf r = take (r .count) (r .events)
 
+-- with the kept time
+abbrev pub courseOf : Run → Course
+courseOf r = record { events = eventsOf r; clock = r .clock }
+
 -- the earliest time that a further event may have
 abbrev pub horizonOf : Run → ℕ
-horizonOf r = horizon (eventsOf r)
+horizonOf r = horizon (courseOf r)
 
 -- the standing of a rule's position; position 0 is the cycle as such
 abbrev pub standingAt : Run → ℕ → ℕ → Standing
@@ -46,23 +50,27 @@ totalsIn r rule = totalsBy (standingAt r rule) (r .count)
 abbrev pub storedTotals : Run → ℕ → Totals
 storedTotals r rule = getD (r .totals) (rule - 1) noTotals
 
--- ---- a record with other events, other standings, closed, or counted
+-- ---- a record with other events, another kept time, other standings, closed, or counted
 
 abbrev pub withEvents : Run → ℕ → List Event → Run
 withEvents r count events =
-    record { closed = r .closed; table = r .table; count = count; events = events; cells = r .cells; overall = r .overall; totals = r .totals }
+    record { closed = r .closed; table = r .table; count = count; events = events; cells = r .cells; overall = r .overall; totals = r .totals; clock = r .clock }
+
+abbrev pub withClock : Run → ℕ → Run
+withClock r clock =
+    record { closed = r .closed; table = r .table; count = r .count; events = r .events; cells = r .cells; overall = r .overall; totals = r .totals; clock = clock }
 
 abbrev pub withStandings : Run → List Cell → List Cell → Run
 withStandings r cells overall =
-    record { closed = r .closed; table = r .table; count = r .count; events = r .events; cells = cells; overall = overall; totals = r .totals }
+    record { closed = r .closed; table = r .table; count = r .count; events = r .events; cells = cells; overall = overall; totals = r .totals; clock = r .clock }
 
 abbrev pub asClosed : Run → Run
 asClosed r =
-    record { closed = true; table = r .table; count = r .count; events = r .events; cells = r .cells; overall = r .overall; totals = r .totals }
+    record { closed = true; table = r .table; count = r .count; events = r .events; cells = r .cells; overall = r .overall; totals = r .totals; clock = r .clock }
 
 abbrev pub withTotals : Run → List Totals → Run
 withTotals r totals =
-    record { closed = r .closed; table = r .table; count = r .count; events = r .events; cells = r .cells; overall = r .overall; totals = totals }
+    record { closed = r .closed; table = r .table; count = r .count; events = r .events; cells = r .cells; overall = r .overall; totals = totals; clock = r .clock }
 
 -- the totals of its rules, which have cells for 256 events; slots past the rules stay as they are
 unfoldable pub countedTotals : Run → List Totals

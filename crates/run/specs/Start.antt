@@ -12,7 +12,7 @@ use Rattle.run.specs.declared.Run.{Run}
 use Rattle.run.specs.Records.{withStandings, counted}
 
 -- "start copies the table and gives a run not closed, with no events, each event slot at time 0,
--- activity 1 and blank readings, each standing idle"; each total is 0
+-- activity 1 and blank readings, each standing idle"; each total is 0, and so is the kept time
 unfoldable pub idleRun : Table → Run
 idleRun t =
     record {
@@ -23,6 +23,7 @@ idleRun t =
       cells = idleCells;
       overall = idleOverall;
       totals = idleTotals;
+      clock = 0;
     }
 
 -- the standing of a rule about the cycle is "judged from start on"

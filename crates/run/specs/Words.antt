@@ -21,13 +21,14 @@ use Rattle.declare.specs.Verdicts.{verdict}
 use Rattle.declare.specs.Reachability.{standing}
 use Rattle.declare.specs.Standings.{isIdle, isOpen}
 use Rattle.declare.specs.Answers.{afterCall}
+use Rattle.declare.specs.Steps.{Call, takes, notices}
 use Rattle.standings.specs.declared.Cell.{Cell}
 use Rattle.standings.specs.Places.{places, idleCell}
 use Rattle.standings.specs.Totals.{noTotals}
 use Rattle.run.specs.declared.Run.{Run}
 use Rattle.run.specs.Records.{eventsOf, horizonOf, standingAt, totalsIn, storedTotals, validRun, Sized}
 use Rattle.run.specs.Start.{started}
-use Rattle.run.specs.Take.{appended, judgedRun, takeOf}
+use Rattle.run.specs.Calls.{entered, judgedRun, callOf}
 use Rattle.run.specs.Close.{closedRun, closeOf, finishedRun}
 
 -- ---- the record, and 11
@@ -94,6 +95,7 @@ pub record Starts (t : Table) (r : Run) : Type 0 where
   pub others : (k : ℕ) → Unread r k → unread r k ≡ idleCell
   pub totals : length (r .totals) ≡ mostRules
   pub unused : (k : ℕ) → Unused r k → storedTotals r k ≡ noTotals
+  pub clock : r .clock ≡ 0
 
 -- the table of no rules
 pub record NoRules (t : Table) : Type 0 where
@@ -101,7 +103,7 @@ pub record NoRules (t : Table) : Type 0 where
   pub slots : length (t .rules) ≡ mostRules
   pub rules : (k : ℕ) → 1 ≤ k → k ≤ mostRules → ruleAt t k ≡ noRule
 
--- ---- take and close
+-- ---- take, notice and close
 
 -- the event stands past the others, and nothing else changes
 pub record Appends (r : Run) (e : Event) (next : Run) : Type 0 where
@@ -114,6 +116,18 @@ pub record Appends (r : Run) (e : Event) (next : Run) : Type 0 where
   pub cells : next .cells ≡ r .cells
   pub overall : next .overall ≡ r .overall
   pub totals : next .totals ≡ r .totals
+  pub clock : next .clock ≡ r .clock
+
+-- the time is kept, and nothing else changes: "a notice is no event: it has no position"
+pub record Keeps (r : Run) (time : ℕ) (next : Run) : Type 0 where
+  pub phase : next .closed ≡ r .closed
+  pub table : next .table ≡ r .table
+  pub count : next .count ≡ r .count
+  pub events : next .events ≡ r .events
+  pub cells : next .cells ≡ r .cells
+  pub overall : next .overall ≡ r .overall
+  pub totals : next .totals ≡ r .totals
+  pub clock : next .clock ≡ time
 
 -- of one of the run's rules, and one of its events or position 0
 abbrev pub InUse : Run → ℕ → ℕ → Type 0
@@ -133,6 +147,7 @@ pub record KeepsRest (r next : Run) : Type 0 where
   pub others : (k : ℕ) → Unread r k → unread next k ≡ unread r k
   pub totals : length (next .totals) ≡ mostRules
   pub unused : (k : ℕ) → Unused r k → storedTotals next k ≡ storedTotals r k
+  pub clock : next .clock ≡ r .clock
 
 -- what follows "from the events now in the record"
 abbrev pub standingNow : Run → ℕ → ℕ → Standing
@@ -175,19 +190,21 @@ pub record Finishes (t : Table) (es : List Event) (r : Run) : Type 0 where
   pub unread-idle : (k : ℕ) → Unread r k → unread r k ≡ idleCell
   pub totals : length (r .totals) ≡ mostRules
   pub unused : (k : ℕ) → Unused r k → storedTotals r k ≡ noTotals
+  pub clock : r .clock ≡ 0
 
 -- ---- of every run with the slots that the code gives it
 
 pub record Words : Type 0 where
   -- what a call leaves is no cause of 11
   pub started-valid : (t : Table) → validRun (started t) ≡ true
-  pub take-valid : (r : Run) → Sized r → validRun r ≡ true → (e : Event) → validRun (afterCall r (takeOf r e)) ≡ true
+  pub call-valid : (r : Run) → Sized r → validRun r ≡ true → (call : Call) → validRun (afterCall r (callOf r call)) ≡ true
   pub close-valid : (r : Run) → Sized r → validRun r ≡ true → validRun (afterCall r (closeOf r)) ≡ true
   pub events : (r : Run) → Sized r → r .count ≤ mostEvents → Events r (eventsOf r)
   pub valid : (r : Run) → Sized r → (validRun r ≡ true) ↔ Valid r
   pub starts : (t : Table) → validTable t ≡ true → Starts t (started t)
   pub refuses : (t : Table) → validTable t ≡ false → (none : Table) × NoRules none × Starts none (started t)
-  pub appends : (r : Run) (e : Event) → Sized r → r .count < mostEvents → Appends r e (appended r e)
+  pub appends : (r : Run) (e : Event) → Sized r → r .count < mostEvents → Appends r e (entered r (takes e))
+  pub keeps : (r : Run) (time : ℕ) → Keeps r time (entered r (notices time))
   pub judges : (r : Run) → Sized r → Judges r (judgedRun r)
   pub closes : (r : Run) → Sized r → Closes r (closedRun r)
   pub finishes : (t : Table) (es : List Event) → Finishes t es (finishedRun t (length es) (eventSlots es))

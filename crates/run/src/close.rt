@@ -104,6 +104,7 @@ impl Run {
                 cells: decided,
                 overall: zero,
                 totals: counted,
+                clock: self.clock,
             },
         }
     }

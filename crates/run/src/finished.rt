@@ -32,6 +32,7 @@ impl Run {
             cells: cells,
             overall: overall,
             totals: totals,
+            clock: 0,
         }
     }
 }

@@ -1,25 +1,33 @@
-// A running cycle: its record, and the calls start, take, standing, totals and close.
+// A running cycle: its record, and the calls start, take, notice, standing, totals and close.
 ghost use mathlib.Core.Path.{_≡_};
+ghost use Prim.Native.Nat.{_≤_};
+ghost use Rattle.declare.specs.Limits.{mostEvents};
 ghost use Rattle.run.specs.declared.Outcome.the-variants.{Refused};
+ghost use Rattle.run.specs.Records.{horizonOf};
+ghost use Rattle.run.specs.Calls.{judgedRun};
 use declare::EVENTS;
 use declare::Event;
 use declare::RULES;
 use declare::Refusal;
 use declare::Standing;
 use declare::Table;
+use judge::cells::judge_cells;
+use judge::overall::judge_overall;
 use standings::Cell;
 use standings::PLACES;
 use standings::totals::Totals;
+use standings::totals::zero_totals;
 
 pub mod record; // record.rt: whether a record is valid
 pub mod start; // start.rt: start
 mod take; // take.rt: take
+mod notice; // notice.rt: notice
 mod close; // close.rt: close
 mod finished; // finished.rt: a finished cycle, closed at once
 mod queries; // queries.rt: standing and totals
 
 // A run: its rules, the first `count` of its event slots, the standings, at its events and at
-// position 0, and the totals of each rule.
+// position 0, the totals of each rule, and the time of the last clock notice.
 pub struct Run {
     pub closed: bool,
     pub table: Table,
@@ -28,9 +36,10 @@ pub struct Run {
     pub cells: [Cell; PLACES],
     pub overall: [Cell; RULES],
     pub totals: [Totals; RULES],
+    pub clock: u32,
 }
 
-// Of start, take and close: done, or why not.
+// Of start, take, notice and close: done, or why not.
 pub enum Outcome {
     Done,
     Refused(Refusal),
@@ -63,5 +72,44 @@ impl Run {
             outcome: Outcome::Refused(cause),
             run: self,
         }
+    }
+
+    // The earliest time that a further event may have.
+    fn horizon(self) -> u32
+        requires { ⌜ self .count ≤ mostEvents ⌝ }
+        ensures { λ r. ⌜ r ≡ horizonOf self ⌝ }
+    {
+        let n = self.count;
+        if n == 0 {
+            return self.clock;
+        }
+        let last = self.events[n - 1];
+        if last.time <= self.clock {
+            return self.clock;
+        }
+        last.time
+    }
+
+    // The run with its standings judged anew, the decided ones kept, and counted.
+    fn judged(mut self) -> Run
+        requires { ⌜ self .count ≤ mostEvents ⌝ }
+        ensures { λ r. ⌜ r ≡ judgedRun self ⌝ }
+    {
+        let horizon = self.horizon();
+        let n = self.count;
+        let table = self.table;
+        let events = self.events;
+        let cells = self.cells;
+        let overall = self.overall;
+        let totals = self.totals;
+        let zero = judge_overall(true, table, events, n, horizon, overall);
+        let begun = zero_totals(table, zero, totals);
+        let next = judge_cells(true, table, events, n, horizon, cells, begun);
+        let judged = next.cells;
+        let counted = next.totals;
+        self.cells = judged;
+        self.overall = zero;
+        self.totals = counted;
+        self
     }
 }

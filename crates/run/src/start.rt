@@ -33,6 +33,7 @@ pub fn new_run(table: Table) -> Run
         cells: idle_cells(),
         overall: overall,
         totals: totals,
+        clock: 0,
     }
 }
 

@@ -38,12 +38,12 @@ pub rules-rest : (count n i : ℕ) → count * 256 ≤ i → inUse count n i ≡
 rules-rest count n i a = past-rules count n i (omega arith)
 
 -- with fewer events no further place is in use
-pub in-use-fewer : (rules n j : ℕ) → inUse rules (n + 1) j ≡ false → inUse rules n j ≡ false
+pub in-use-fewer : (rules n m j : ℕ) → n ≤ m → inUse rules m j ≡ false → inUse rules n j ≡ false
 unfolding inUse
-in-use-fewer rules n j =
+in-use-fewer rules n m j more =
     fails (ltb (j / 256) rules && ltb (j % 256) n)
     (λ u. let p : (ltb (j / 256) rules ≡ true) × (ltb (j % 256) n ≡ true) = and₂ u in
-    both (p .0) (lt-ltb (j % 256) (n + 1) (omega (arith, ltb-true (j % 256) n (p .1)))))
+    both (p .0) (lt-ltb (j % 256) m (omega (arith, ltb-true (j % 256) n (p .1)))))
 
 -- ---- the place of rule k and position i
 

@@ -180,7 +180,8 @@ pub fn decode_tally(bytes: &[u8]) -> Result<Tally, Wrong> {
 pub fn decode_run(bytes: &[u8]) -> Result<Record, Wrong> {
     let mut read = Bytes::new(bytes);
     let closed = read.flag()?;
-    read.zeros(7)?;
+    read.zeros(3)?;
+    let clock = read.u32()?;
     let count = read.u64()?;
     let mut table = TableRecord {
         count: read.u64()?,
@@ -209,6 +210,7 @@ pub fn decode_run(bytes: &[u8]) -> Result<Record, Wrong> {
         standings,
         overall,
         totals,
+        clock,
     })
 }
 
@@ -454,6 +456,16 @@ mod tests {
     }
 
     #[test]
+    fn a_run_has_its_kept_time() {
+        let mut bytes = run_bytes();
+        assert_eq!(decode_run(&bytes).map(|run| run.clock), Ok(0));
+        put(&mut bytes, 4, &[1, 2, 3, 4]);
+        let record = decode_run(&bytes).expect("a run");
+        assert_eq!(record.clock, 0x0403_0201);
+        assert_eq!((record.closed, record.count), (true, 3));
+    }
+
+    #[test]
     fn a_run_has_its_events_and_standings() {
         let mut bytes = run_bytes();
         let last = 1368 + 24 * 255;
@@ -502,6 +514,8 @@ mod tests {
         let wrong = [
             (0, 2),
             (1, 1),
+            (2, 1),
+            (3, 1),
             (27, 2),
             (32, 1),
             (37, 1),

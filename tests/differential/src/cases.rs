@@ -4,6 +4,7 @@ pub mod bands;
 pub mod causes;
 pub mod crowded;
 pub mod notebook;
+pub mod notices;
 pub mod overall;
 pub mod printed;
 pub mod records;

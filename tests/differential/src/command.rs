@@ -70,9 +70,16 @@ pub enum Command {
         slot: u8,
         numbers: [u32; 4],
     },
+    /// The kept time.
+    SetClock {
+        clock: u32,
+    },
     SetTally(Tally),
     Start,
     Take(Event),
+    Notice {
+        time: u64,
+    },
     Close,
     Standing {
         rule: u32,
@@ -124,9 +131,11 @@ impl Command {
             Command::SetEvent { .. } => 'E',
             Command::SetStanding { .. } => 'S',
             Command::SetTotals { .. } => 'O',
+            Command::SetClock { .. } => 'K',
             Command::SetTally(_) => 'A',
             Command::Start => 's',
             Command::Take(_) => 'e',
+            Command::Notice { .. } => 'k',
             Command::Close => 'x',
             Command::Standing { .. } => 'g',
             Command::Totals { .. } => 'o',
@@ -177,8 +186,10 @@ impl Command {
             Command::SetEvent { slot, event } => fields.event(event).p(*slot),
             Command::SetStanding { cell, standing } => fields.standing(*standing).p(*cell),
             Command::SetTotals { slot, numbers } => fields.byte(1, *slot).four(*numbers),
+            Command::SetClock { clock } => fields.p(*clock),
             Command::SetTally(tally) => fields.tally(tally),
             Command::Take(event) => fields.event(event),
+            Command::Notice { time } => fields.n(*time),
             Command::Standing { rule, position } => fields.p(*rule).q(*position),
             Command::Totals { rule } | Command::Absorb { rule } => fields.n(*rule),
             Command::ReadRules(text) | Command::ReadCycle(text) => fields.n(text.len() as u64),
@@ -403,6 +414,7 @@ mod tests {
         let n = [(8, &[8, 7, 6, 5, 4, 3, 2, 1][..])];
         assert_eq!(encoded(Command::NewTable { count }), bytes(b't', &n));
         assert_eq!(encoded(Command::SetEventCount { count }), bytes(b'C', &n));
+        assert_eq!(encoded(Command::Notice { time: count }), bytes(b'k', &n));
         assert_eq!(encoded(Command::Totals { rule: count }), bytes(b'o', &n));
         assert_eq!(encoded(Command::Absorb { rule: count }), bytes(b'b', &n));
         assert_eq!(encoded(Command::WriteRules { n: count }), bytes(b'w', &n));
@@ -512,6 +524,12 @@ mod tests {
         let placed: [(usize, &[u8]); 4] =
             [(1, &[15]), (16, &[0, 1]), (20, &[255; 4]), (28, &[2, 0, 1])];
         assert_eq!(set, bytes(b'O', &placed));
+    }
+
+    #[test]
+    fn the_kept_time() {
+        let set = encoded(Command::SetClock { clock: 0x0403_0201 });
+        assert_eq!(set, bytes(b'K', &[(8, &[1, 2, 3, 4])]));
     }
 
     #[test]

@@ -137,9 +137,10 @@ impl Counts {
 }
 
 /// The calls by their letters.
-const CALLS: [(char, &str); 13] = [
+const CALLS: [(char, &str); 14] = [
     ('s', "starts"),
     ('e', "takes"),
+    ('k', "notices"),
     ('x', "closes"),
     ('g', "standings asked"),
     ('o', "totals"),

@@ -130,6 +130,7 @@ impl Fields {
 pub fn differing_fields(expected: &Record, found: &Record) -> Mismatch {
     let mut fields = Fields::default();
     fields.compare("closed", expected.closed, found.closed);
+    fields.compare("kept time", expected.clock, found.clock);
     fields.compare("event count", expected.count, found.count);
     fields.compare("rule count", expected.table.count, found.table.count);
     for (index, rule) in expected.table.rules.iter().enumerate() {
@@ -159,6 +160,7 @@ fn overall_rules(run: &Record) -> Vec<usize> {
 pub fn differing_used_fields(expected: &Record, found: &Record) -> Result<(), Mismatch> {
     let mut fields = Fields::default();
     fields.compare("closed", expected.closed, found.closed);
+    fields.compare("kept time", expected.clock, found.clock);
     fields.compare("event count", expected.count, found.count);
     fields.compare("rules", expected.table.rules(), found.table.rules());
     for (index, event) in expected.events.iter().enumerate() {
@@ -207,6 +209,7 @@ mod tests {
     fn fields_that_differ_are_named() {
         let mut other = run();
         other.closed = true;
+        other.clock = 77;
         other.events[255].time = 9;
         other.standings[place(16, 256)] = Standing::Fulfilled(3);
         other.overall[0] = Standing::Violated(7);
@@ -214,6 +217,7 @@ mod tests {
         let mismatch = differing_fields(&run(), &other);
         for part in [
             "closed: false",
+            "kept time: 0",
             "event slot 255: ",
             "rule 16 at position 256: Idle",
             "rule 1 at position 0: Idle",
@@ -221,6 +225,7 @@ mod tests {
         ] {
             assert!(mismatch.expected.contains(part), "{mismatch:?}");
         }
+        assert!(mismatch.found.contains("kept time: 77"));
         assert!(mismatch.found.contains("position 256: Fulfilled(3)"));
         assert!(mismatch.found.contains("position 0: Violated(7)"));
         assert!(mismatch.found.contains("open: 3"));
@@ -229,8 +234,9 @@ mod tests {
 
     #[test]
     fn every_used_field_of_a_notebook_run_is_compared() {
-        let changes: [fn(&mut Record); 13] = [
+        let changes: [fn(&mut Record); 14] = [
             |run| run.closed = true,
+            |run| run.clock = 1,
             |run| run.count = 3,
             |run| run.table.count = 1,
             |run| run.table.rules[1].target = 3,

@@ -4,6 +4,7 @@ use crate::answer::Answer;
 use crate::command::{buffer_of, cell_at_0, Command};
 use crate::expected::Expected;
 use evaluator::bands::{conditions, is_band};
+use evaluator::notices::Call;
 use evaluator::slots::{COMPARISON_SLOTS, RULE_SLOTS};
 use evaluator::{absorb, notebook_record, place, print_texts, read_cycle, read_rules, start};
 use evaluator::{write_cycle_of, write_report_of, write_rules_of};
@@ -140,6 +141,9 @@ impl Case {
         self.send(Command::SetTable);
         self.send(Command::SetEventCount { count: run.count });
         self.send(Command::SetClosed { closed: run.closed });
+        if run.clock != 0 {
+            self.send(Command::SetClock { clock: run.clock });
+        }
         for (slot, event) in (0..).zip(&run.events) {
             if *event != Event::new(0, 1) {
                 let event = *event;
@@ -291,6 +295,12 @@ impl Session {
         }
     }
 
+    /// The kept time becomes this one.
+    pub fn set_clock(&mut self, clock: u32) {
+        self.case.send(Command::SetClock { clock });
+        self.run.clock = clock;
+    }
+
     /// Start from a table; an accepted one becomes the run.
     pub fn start(&mut self, table: &TableRecord) -> Result<(), Refusal> {
         self.load_table(table);
@@ -304,6 +314,21 @@ impl Session {
         self.run = run;
         self.ask(Command::Take(event), Answer::plain(answer));
         answer
+    }
+
+    pub fn notice(&mut self, time: u64) -> Result<(), Refusal> {
+        let (run, answer) = self.run.clone().notice(time);
+        self.run = run;
+        self.ask(Command::Notice { time }, Answer::plain(answer));
+        answer
+    }
+
+    /// A take or a notice.
+    pub fn call(&mut self, call: Call) -> Result<(), Refusal> {
+        match call {
+            Call::Take(event) => self.take(event),
+            Call::Notice(time) => self.notice(time),
+        }
     }
 
     pub fn close(&mut self) -> Result<(), Refusal> {

@@ -10,6 +10,7 @@ use evaluator::{Comparison, ConditionSlot, Event, Operator, Record, Reference, R
 use evaluator::{RuleSlot, Standing, TableRecord, Tally, Text, Totals};
 
 mod bands;
+mod notices;
 mod numbers;
 mod overall;
 mod printed;
@@ -212,12 +213,66 @@ pub enum Mistake {
     CountsCommasLast,
     /// 6 is looked for before 17.
     FifthAfterTheWindow,
+    /// A take ends windows by the last notice alone.
+    JudgesByTheClockAlone,
+    /// A take is refused with 7 below the last event alone.
+    TakesBelowNotices,
+    /// A notice is refused with 7 below the last event alone.
+    NoticesBelowNotices,
+    /// A notice is refused with 7 below the last notice alone.
+    NoticesBelowEvents,
+    /// A notice is kept and decides nothing.
+    NoticesDecideNothing,
+    /// A notice does not judge position 0.
+    NoticesLeavePositionZero,
+    /// Before the first event a notice does not judge position 0.
+    IgnoresNoticesWithoutEvents,
+    /// A notice leaves the totals as they were.
+    NoticesKeepTotals,
+    /// A notice judges decided standings anew.
+    NoticesJudgeAnew,
+    /// A notice is an event between the neighbours of a chain.
+    NoticesEndChains,
+    /// A notice is put in the next event slot.
+    NoticesFillASlot,
+    /// A notice does not look at the stored totals.
+    NoticesMiscounted,
+    /// The time of a refused notice is kept.
+    KeepsRefusedNotices,
+    /// A notice on a run with 256 events is refused with 8.
+    RefusesNoticesWhenFull,
+    /// A notice at the time of the last event or notice is refused with 7.
+    RefusesEqualNotices,
+    /// 7 of a notice comes without a line.
+    FallsWithoutLine,
+    /// Of a notice's time the low 32 bits are kept, and 3 does not occur.
+    CutsNotices,
+    /// Of a notice's time the low 32 bits are compared for 7, and 3 comes after it.
+    CutsBeforeComparing,
+    /// A notice on a closed run is refused with 3 before 9.
+    RangeBeforeClosed,
+    /// A notice on a closed run is refused with 9 before its record is checked.
+    ClosedBeforeNotices,
+    /// A take makes its event's time the kept one.
+    TakesSetTheClock,
+    /// A take makes the kept time 0.
+    TakesResetTheClock,
+    /// Close makes the kept time 0.
+    ClosesWithClockZero,
+    /// Close violates what is open if a notice came after the last event.
+    ClosesByTheClock,
+    /// Start keeps the time of the run before it.
+    StartsWithOldClock,
+    /// The notebook keeps the time of the run before it.
+    ReadsWithOldClock,
+    /// A closed record is refused with 11 if its kept time is above its last event.
+    ChecksTheClock,
     /// The last four bytes of the answers are missing.
     EndsEarly,
 }
 
 impl Mistake {
-    pub const ALL: [Mistake; 95] = [
+    pub const ALL: [Mistake; 122] = [
         Mistake::NeverOpen,
         Mistake::JudgesAnew,
         Mistake::NamesTheEarliest,
@@ -312,6 +367,33 @@ impl Mistake {
         Mistake::CountsCommasFirst,
         Mistake::CountsCommasLast,
         Mistake::FifthAfterTheWindow,
+        Mistake::JudgesByTheClockAlone,
+        Mistake::TakesBelowNotices,
+        Mistake::NoticesBelowNotices,
+        Mistake::NoticesBelowEvents,
+        Mistake::NoticesDecideNothing,
+        Mistake::NoticesLeavePositionZero,
+        Mistake::IgnoresNoticesWithoutEvents,
+        Mistake::NoticesKeepTotals,
+        Mistake::NoticesJudgeAnew,
+        Mistake::NoticesEndChains,
+        Mistake::NoticesFillASlot,
+        Mistake::NoticesMiscounted,
+        Mistake::KeepsRefusedNotices,
+        Mistake::RefusesNoticesWhenFull,
+        Mistake::RefusesEqualNotices,
+        Mistake::FallsWithoutLine,
+        Mistake::CutsNotices,
+        Mistake::CutsBeforeComparing,
+        Mistake::RangeBeforeClosed,
+        Mistake::ClosedBeforeNotices,
+        Mistake::TakesSetTheClock,
+        Mistake::TakesResetTheClock,
+        Mistake::ClosesWithClockZero,
+        Mistake::ClosesByTheClock,
+        Mistake::StartsWithOldClock,
+        Mistake::ReadsWithOldClock,
+        Mistake::ChecksTheClock,
         Mistake::EndsEarly,
     ];
 }
@@ -450,7 +532,7 @@ impl State {
                 self.set_table(read);
                 after
             }
-            b'T' | b'C' | b'F' | b'E' | b'S' | b'O' | b'A' => {
+            b'T' | b'C' | b'F' | b'E' | b'S' | b'O' | b'K' | b'A' => {
                 self.set_field(read);
                 after
             }
@@ -499,6 +581,7 @@ impl State {
             b'T' => self.run.table = self.table.clone(),
             b'C' => self.run.count = read.n(),
             b'F' => self.run.closed = read.b(1) != 0,
+            b'K' => self.run.clock = read.p(),
             b'E' => self.run.events[at] = read.event(),
             b'S' if at >= RULE_SLOTS * EVENT_SLOTS => {
                 self.run.overall[at - RULE_SLOTS * EVENT_SLOTS] = read.standing();
@@ -539,8 +622,9 @@ impl State {
     fn call(&mut self, read: &Read) {
         let refuses = self.refuses_zeros()
             || self.refuses_unused_totals()
-            || self.refuses_bands(&self.run.table);
-        if b"exgob".contains(&read.b(0)) && refuses {
+            || self.refuses_bands(&self.run.table)
+            || self.refuses_clock();
+        if b"ekxgob".contains(&read.b(0)) && refuses {
             return self.answer(Some(Refusal::plain(11)), [0; 12]);
         }
         match read.b(0) {
@@ -549,6 +633,7 @@ impl State {
                 self.answer(answer.err(), [0; 12]);
             }
             b'e' => self.take(read.event()),
+            b'k' => self.notice(read.n()),
             b'x' => self.close(),
             b'g' => self.standing(u64::from(read.p()), u64::from(read.q())),
             b'o' => self.totals(read.n()),
@@ -570,10 +655,11 @@ impl State {
         if self.run.closed && self.has(Mistake::ClosedFirst) {
             return self.answer(Some(Refusal::plain(9)), [0; 12]);
         }
-        let mut seen = self.seen_by(b'e');
+        let mut seen = self.seen_by_take();
         seen.table = self.judged_table(&self.run.table);
         let (mut run, answer) = seen.take(event);
         run.table = self.run.table.clone();
+        self.change_clock(&mut run, event, answer.is_ok());
         let count = run.count as usize;
         if answer.is_err() && self.has(Mistake::KeepsRefused) && count < EVENT_SLOTS {
             run.events[count] = event;
@@ -582,6 +668,7 @@ impl State {
             Ok(()) => {
                 self.change_taken(&mut run);
                 self.change_awaited(&mut run);
+                self.change_lapsed(&mut run);
                 self.change_targets(&mut run);
                 self.change_position_0(&mut run);
                 self.change_totals(b'e', &mut run);
@@ -624,6 +711,7 @@ impl State {
         match answer {
             Ok(()) => {
                 self.change_closed_0(&mut run);
+                self.change_closed_clock(&mut run);
                 self.change_totals(b'x', &mut run);
             }
             Err(_) => self.change_refused_totals(&mut run),
@@ -701,6 +789,9 @@ impl State {
                 if self.has(Mistake::ReadsIdleAtZero) {
                     run.overall.fill(Standing::Idle);
                 }
+                if self.has(Mistake::ReadsWithOldClock) {
+                    run.clock = self.run.clock;
+                }
                 self.change_totals(b'N', &mut run);
                 self.run = run;
                 None
@@ -757,7 +848,8 @@ fn standing_bytes(standing: Standing) -> [u8; 4] {
 }
 
 fn run_bytes(run: &Record) -> Vec<u8> {
-    let mut bytes = vec![u8::from(run.closed), 0, 0, 0, 0, 0, 0, 0];
+    let mut bytes = vec![u8::from(run.closed), 0, 0, 0];
+    bytes.extend(run.clock.to_le_bytes());
     bytes.extend(run.count.to_le_bytes());
     bytes.extend(run.table.count.to_le_bytes());
     for rule in &run.table.rules[..RULE_SLOTS] {

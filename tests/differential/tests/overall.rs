@@ -84,12 +84,13 @@ fn each_cause_of_11() {
     let cases = (0..).zip(runs);
     let counts = agree(&Probe::find(), cases.map(|(n, run)| cause_case(n, run)));
     assert_eq!(counts.answered('e', 11), 4 * number);
-    for letter in ['e', 'x', 'g', 'o', 'b'] {
+    assert_eq!(counts.answered('k', 11), 4 * number);
+    for letter in ['e', 'k', 'x', 'g', 'o', 'b'] {
         assert_eq!(counts.numbers(letter), [11]);
     }
     assert!(misfits >= 36, "{misfits}");
     assert_eq!(counts.answered('s', 11), misfits);
-    assert_eq!(counts.dumps('D'), 6 * number);
+    assert_eq!(counts.dumps('D'), 7 * number);
 }
 
 /// What is within the limits, and any standing at position 0 of other rules and of
@@ -104,6 +105,8 @@ fn what_is_no_cause_of_11() {
     let counts = agree(&Probe::find(), cases);
     assert_eq!(counts.answered('e', 0), number[0]);
     assert_eq!(counts.answered('e', 9), 4 * number[1]);
+    assert_eq!(counts.answered('k', 0), number[0]);
+    assert_eq!(counts.answered('k', 9), 4 * number[1]);
     assert_eq!(counts.numbers('g'), [0, 10]);
     assert_eq!(counts.numbers('s'), [0]);
 }

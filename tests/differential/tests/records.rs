@@ -25,12 +25,14 @@ fn each_cause_of_11() {
     );
     assert_eq!(counts.answered('e', 11), 4 * number);
     assert_eq!(counts.numbers('e'), [11]);
+    assert_eq!(counts.answered('k', 11), 4 * number);
+    assert_eq!(counts.numbers('k'), [11]);
     assert_eq!(counts.numbers('x'), [11]);
     assert_eq!(counts.numbers('g'), [11]);
     assert_eq!(counts.numbers('o'), [11]);
     assert_eq!(counts.numbers('b'), [11]);
     assert!(counts.answered('s', 11) >= 200);
-    assert_eq!(counts.dumps('D'), 6 * number);
+    assert_eq!(counts.dumps('D'), 7 * number);
     // The totals are the cause where they are meant to be, and nowhere else.
     let wrong_totals = miscounted(false).len() + miscounted(true).len();
     assert!(wrong_totals >= 200, "{wrong_totals}");
@@ -55,6 +57,9 @@ fn what_is_no_cause_of_11() {
     assert_eq!(counts.answered('e', 0), number - closed);
     assert_eq!(counts.answered('e', 9), closed * 4);
     assert_eq!(counts.numbers('e'), [0, 3, 7, 9]);
+    assert_eq!(counts.answered('k', 0), number - closed);
+    assert_eq!(counts.answered('k', 9), closed * 4);
+    assert_eq!(counts.numbers('k'), [0, 3, 7, 9]);
     assert_eq!(counts.numbers('x'), [0, 9]);
     assert_eq!(counts.numbers('g'), [0, 10]);
     assert_eq!(counts.numbers('o'), [0, 10]);
@@ -67,6 +72,8 @@ fn random_records() {
     assert_eq!(counts.numbers('e'), [0, 3, 7, 8, 9, 11]);
     assert!(counts.answered('e', 0) >= 500);
     assert!(counts.answered('e', 11) >= 500);
+    assert_eq!(counts.numbers('k'), [0, 3, 7, 9, 11]);
+    assert!(counts.answered('k', 0) >= 200 && counts.answered('k', 11) >= 200);
     assert_eq!(counts.numbers('x'), [0, 9, 11]);
     assert_eq!(counts.numbers('g'), [0, 10, 11]);
     assert_eq!(counts.numbers('o'), [0, 10, 11]);

@@ -1,8 +1,8 @@
 //! The comparison itself: it agrees with the evaluator behind `probe`'s
 //! commands, and each kind of cases finds the mistakes that are put there.
 
-use differential::cases::{bands, causes, crowded, notebook, overall, printed, records};
-use differential::cases::{reported, running, tally, texts, written};
+use differential::cases::{bands, causes, crowded, notebook, notices, overall, printed};
+use differential::cases::{records, reported, running, tally, texts, written};
 use differential::compare::compare;
 use differential::script::Case;
 use differential::stand_in::{Mistake, StandIn};
@@ -55,6 +55,25 @@ fn fifth_cases() -> Vec<Case> {
     let texts = (1..).zip(texts::fifth_texts()).step_by(5);
     texts
         .map(|(number, text)| texts::rules_text_case(number, text))
+        .collect()
+}
+
+fn notices_cases() -> Vec<Case> {
+    (1..=60).map(notices::case).collect()
+}
+
+fn notices_stale_cases() -> Vec<Case> {
+    (1..=100).map(notices::stale_case).collect()
+}
+
+fn notices_full_cases() -> Vec<Case> {
+    vec![notices::full_case(1)]
+}
+
+fn kept_time_cases() -> Vec<Case> {
+    let kept = [causes::kept_times(false), causes::kept_times(true)].concat();
+    let kept = (0..).zip(kept);
+    kept.map(|(number, (_, run))| records::allowed_case(number, run))
         .collect()
 }
 
@@ -157,6 +176,10 @@ fn all_cases() -> Vec<Case> {
         overall_cases(),
         overall_stale_cases(),
         overall_cause_cases(),
+        notices_cases(),
+        notices_stale_cases(),
+        notices_full_cases(),
+        kept_time_cases(),
         misfit_cases(),
         fifth_cases(),
         record_cases(),
@@ -189,7 +212,7 @@ fn the_evaluator_agrees_with_itself() {
     let counts = compare(&program, all_cases());
     let counts = counts.unwrap_or_else(|difference| panic!("{difference}"));
     assert!(counts.cases > 900, "{counts}");
-    for letter in "sexgobRYNwWvp".chars() {
+    for letter in "sekxgobRYNwWvp".chars() {
         let accepted = counts.answered(letter, 0);
         assert!(accepted > 0 && counts.calls(letter) > accepted, "{letter}");
     }
@@ -200,7 +223,7 @@ fn the_evaluator_agrees_with_itself() {
 /// A mistake, and the cases that have to find it.
 type Finder = (Mistake, fn() -> Vec<Case>);
 
-const FINDERS: [Finder; 183] = [
+const FINDERS: [Finder; 241] = [
     (Mistake::NeverOpen, running_cases),
     (Mistake::JudgesAnew, stale_cases),
     (Mistake::JudgesAnew, crowded_stale_cases),
@@ -383,6 +406,64 @@ const FINDERS: [Finder; 183] = [
     (Mistake::CountsCommasFirst, fifth_cases),
     (Mistake::CountsCommasLast, fifth_cases),
     (Mistake::FifthAfterTheWindow, fifth_cases),
+    (Mistake::JudgesByTheClockAlone, notices_cases),
+    (Mistake::JudgesByTheClockAlone, running_cases),
+    (Mistake::JudgesByTheClockAlone, stale_cases),
+    (Mistake::TakesBelowNotices, notices_cases),
+    (Mistake::TakesBelowNotices, notices_stale_cases),
+    (Mistake::NoticesBelowNotices, notices_cases),
+    (Mistake::NoticesBelowNotices, notices_stale_cases),
+    (Mistake::NoticesBelowEvents, notices_cases),
+    (Mistake::NoticesBelowEvents, notices_stale_cases),
+    (Mistake::NoticesDecideNothing, notices_cases),
+    (Mistake::NoticesDecideNothing, notices_stale_cases),
+    (Mistake::NoticesLeavePositionZero, notices_cases),
+    (Mistake::NoticesLeavePositionZero, notices_stale_cases),
+    (Mistake::IgnoresNoticesWithoutEvents, notices_cases),
+    (Mistake::NoticesKeepTotals, notices_cases),
+    (Mistake::NoticesKeepTotals, notices_stale_cases),
+    (Mistake::NoticesJudgeAnew, notices_stale_cases),
+    (Mistake::NoticesEndChains, notices_cases),
+    (Mistake::NoticesEndChains, notices_stale_cases),
+    (Mistake::NoticesFillASlot, notices_cases),
+    (Mistake::NoticesFillASlot, notices_stale_cases),
+    (Mistake::NoticesMiscounted, totals_cases),
+    (Mistake::NoticesMiscounted, record_cases),
+    (Mistake::KeepsRefusedNotices, notices_cases),
+    (Mistake::KeepsRefusedNotices, notices_stale_cases),
+    (Mistake::KeepsRefusedNotices, cause_cases),
+    (Mistake::RefusesNoticesWhenFull, notices_full_cases),
+    (Mistake::RefusesEqualNotices, notices_cases),
+    (Mistake::RefusesEqualNotices, notices_stale_cases),
+    (Mistake::RefusesEqualNotices, cause_cases),
+    (Mistake::FallsWithoutLine, notices_cases),
+    (Mistake::FallsWithoutLine, notices_stale_cases),
+    (Mistake::FallsWithoutLine, cause_cases),
+    (Mistake::CutsNotices, notices_cases),
+    (Mistake::CutsNotices, notices_stale_cases),
+    (Mistake::CutsNotices, cause_cases),
+    (Mistake::CutsBeforeComparing, notices_cases),
+    (Mistake::CutsBeforeComparing, notices_stale_cases),
+    (Mistake::CutsBeforeComparing, cause_cases),
+    (Mistake::RangeBeforeClosed, notices_cases),
+    (Mistake::ClosedBeforeNotices, cause_cases),
+    (Mistake::ClosedBeforeNotices, totals_cases),
+    (Mistake::TakesSetTheClock, notices_cases),
+    (Mistake::TakesSetTheClock, notices_stale_cases),
+    (Mistake::TakesSetTheClock, record_cases),
+    (Mistake::TakesResetTheClock, notices_cases),
+    (Mistake::TakesResetTheClock, notices_stale_cases),
+    (Mistake::TakesResetTheClock, stale_cases),
+    (Mistake::ClosesWithClockZero, notices_cases),
+    (Mistake::ClosesWithClockZero, stale_cases),
+    (Mistake::ClosesWithClockZero, record_cases),
+    (Mistake::ClosesByTheClock, notices_cases),
+    (Mistake::StartsWithOldClock, notices_cases),
+    (Mistake::StartsWithOldClock, record_cases),
+    (Mistake::ReadsWithOldClock, notices_cases),
+    (Mistake::ChecksTheClock, notices_cases),
+    (Mistake::ChecksTheClock, record_cases),
+    (Mistake::ChecksTheClock, kept_time_cases),
     (Mistake::EndsEarly, running_cases),
 ];
 

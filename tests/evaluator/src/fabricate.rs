@@ -20,10 +20,12 @@ pub enum Part {
     Closed,
     /// The stored totals.
     Totals,
+    /// The kept time.
+    Clock,
 }
 
 impl Part {
-    pub const ALL: [Part; 8] = [
+    pub const ALL: [Part; 9] = [
         Part::Standing,
         Part::Overall,
         Part::EventSlot,
@@ -32,6 +34,7 @@ impl Part {
         Part::RuleCount,
         Part::Closed,
         Part::Totals,
+        Part::Clock,
     ];
 }
 
@@ -40,16 +43,38 @@ impl Part {
 const UNCOUNTED: usize = 8;
 
 /// A record grown from start with random rules and up to `longest` events, now
-/// and then closed.
+/// and then closed. In every second one the kept time is any.
 pub fn random_record(random: &mut Random, longest: usize) -> Record {
     let count = random.pick(&[0, 1, 1, 1, 2, 2, 3, 4]);
     let rules = random_rules(random, count);
     let length = random.below(longest + 1);
-    let record = grown(&rules, &random_cycle(random, &rules, length));
+    let mut record = grown(&rules, &random_cycle(random, &rules, length));
+    if random.one_in(2) {
+        record.clock = any_clock(random, &record);
+    }
     match random.one_in(3) {
         true => record.close().0,
         false => record,
     }
+}
+
+/// Any kept time: 0, at the last event, beside it and above it, or the largest.
+pub fn any_clock(random: &mut Random, record: &Record) -> u32 {
+    let last = last_time(record);
+    let above = random.pick(&[1, 2, 100, 500]);
+    let near = [last, last.saturating_sub(1), last.saturating_add(above)];
+    match random.below(8) {
+        0 => 0,
+        1 => last / 2,
+        2 => random.pick(&[u32::MAX, u32::MAX - 1]),
+        _ => random.pick(&near),
+    }
+}
+
+/// The time of the last event, 0 if there is none.
+fn last_time(record: &Record) -> u32 {
+    let taken = usize::try_from(record.count).unwrap_or(0).min(EVENT_SLOTS);
+    record.events[..taken].last().map_or(0, |event| event.time)
 }
 
 /// The record with `changes` random changes.
@@ -109,6 +134,7 @@ pub fn change(random: &mut Random, record: &mut Record, part: Part) {
         }
         Part::Closed => record.closed = !record.closed,
         Part::Totals => change_totals(random, record),
+        Part::Clock => record.clock = any_clock(random, record),
     }
 }
 
@@ -346,16 +372,18 @@ fn any_signed(random: &mut Random) -> i32 {
 }
 
 /// An event to take: mostly the next of a cycle, now and then with a wrong
-/// activity or a time that falls.
+/// activity or a time below the last event or the kept time.
 pub fn random_event(random: &mut Random, record: &Record) -> Event {
     let rules = record.table.rules().unwrap_or_default();
     let mut event = random_cycle(random, &rules, 1)[0];
-    let taken = usize::try_from(record.count).unwrap_or(0).min(EVENT_SLOTS);
-    let last = record.events[..taken].last().map_or(0, |event| event.time);
-    event.time = last.saturating_add(random.pick(&[0, 0, 1, 100, 500]));
+    let (last, horizon) = (last_time(record), record.horizon());
+    event.time = horizon.saturating_add(random.pick(&[0, 0, 1, 100, 500]));
     match random.below(10) {
         0 => event.activity = random.pick(&[0, 65, 255]),
-        1 => event.time = last.saturating_sub(1),
+        1 => {
+            let below = [last.saturating_sub(1), last, horizon.saturating_sub(1)];
+            event.time = random.pick(&below);
+        }
         _ => {}
     }
     event

@@ -18,8 +18,8 @@
 //! - [`refusal`]: [`Refusal`], a number and perhaps a line.
 //! - [`slots`]: rule tables as a caller may fill them ([`TableRecord`]).
 //! - [`record`]: run records as a caller may fill them ([`Record`]), with
-//!   [`start`], take, close, standing and totals, [`totals`]: the four numbers that
-//!   they store of each rule ([`Totals`]).
+//!   [`start`], take, notice, close, standing and totals, [`totals`]: the four
+//!   numbers that they store of each rule ([`Totals`]).
 //! - [`text`]: the readers and writers of the two texts, [`natural`]: the values of
 //!   numbers of any length.
 //! - [`written`]: [`write_rules_of`] and [`write_cycle_of`] write the texts of a
@@ -35,6 +35,7 @@
 //! - [`random`]: rules and cycles around the critical values, [`bands`]: conditions
 //!   in which a reading is compared more than once.
 //! - [`crowded`]: rules and cycles in which many events are eligible.
+//! - [`notices`]: lists of takes and notices.
 //! - [`damage`]: texts, valid and damaged.
 //! - [`long_numbers`]: texts with numbers of up to 5,000 digits.
 //! - [`fabricate`]: run records, grown and changed.
@@ -55,6 +56,7 @@ pub mod long_numbers;
 pub mod model;
 pub mod natural;
 pub mod notebook;
+pub mod notices;
 pub mod overall;
 pub mod random;
 pub mod record;

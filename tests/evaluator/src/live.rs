@@ -5,7 +5,9 @@
 //! every continuation, violated exactly when it is violated in every
 //! continuation, open exactly when two continuations differ on it. A
 //! continuation is the taken events and then any finite list of well-formed
-//! events, none with a time below that of the event before it.
+//! events, none with a time below that of the event before it. After a notice it
+//! "begins no earlier than the later of last event and last notice", which is the
+//! horizon here.
 //!
 //! Why the searched continuations are enough:
 //!

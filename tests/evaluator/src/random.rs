@@ -171,15 +171,34 @@ pub fn random_cycle(random: &mut Random, rules: &[Rule], length: usize) -> Vec<E
     let mut time = random_start(random, &steps);
     let mut events: Vec<Event> = Vec::with_capacity(length);
     for _ in 0..length {
-        let mut event = Event::new(time, random_event_activity(random, rules));
-        for number in 1..=4 {
-            let values = critical_readings(rules, number, &events, random);
-            event.readings[number - 1] = random.pick(&values);
-        }
-        events.push(event);
+        events.push(event_at(random, rules, &events, time));
         time = next_time(random, rules, &steps, &events);
     }
     events
+}
+
+/// An event that may follow these, drawn in the same way, none before `earliest`.
+pub fn random_next(random: &mut Random, rules: &[Rule], events: &[Event], earliest: u32) -> Event {
+    let steps = critical_steps(rules);
+    let drawn = match events.is_empty() {
+        true => random_start(random, &steps),
+        false => next_time(random, rules, &steps, events),
+    };
+    let time = match drawn < earliest {
+        true => earliest.saturating_add(random.pick(&[0, 0, 1, 2, 100])),
+        false => drawn,
+    };
+    event_at(random, rules, events, time)
+}
+
+/// An event at this time, its activity and readings close to what the rules name.
+fn event_at(random: &mut Random, rules: &[Rule], events: &[Event], time: u32) -> Event {
+    let mut event = Event::new(time, random_event_activity(random, rules));
+    for number in 1..=4 {
+        let values = critical_readings(rules, number, events, random);
+        event.readings[number - 1] = random.pick(&values);
+    }
+    event
 }
 
 /// A step after the last event, or a time at or beside an end of a window that

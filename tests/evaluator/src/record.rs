@@ -13,6 +13,10 @@
 //! in one place, whatever was stored before: a take may judge any undecided
 //! standing of a record that no call gave back. The totals of rules that the table
 //! does not have are neither read nor changed.
+//!
+//! Card 7: a notice is "a time, kept in the run (0 from start)". "A notice judges as
+//! a take does", but it "is no event". A record may have any kept time, below its
+//! events or above them: the card names no further cause of 11.
 
 use crate::live;
 use crate::model::{is_cycle, Event, Rule, Standing, World};
@@ -36,6 +40,8 @@ pub struct Record {
     pub overall: [Standing; RULE_SLOTS],
     /// The stored totals of each rule slot.
     pub totals: [Totals; RULE_SLOTS],
+    /// The kept time: that of the last notice, 0 if there was none.
+    pub clock: u32,
 }
 
 /// Where the standing of a rule (1 to 16) at a position (1 to 256) is kept.
@@ -57,6 +63,7 @@ pub fn start(table: &TableRecord) -> Result<Record, Refusal> {
         standings: vec![Standing::Idle; RULE_SLOTS * EVENT_SLOTS],
         overall: [Standing::Idle; RULE_SLOTS],
         totals: [Totals::default(); RULE_SLOTS],
+        clock: 0,
     };
     run.judge_overall(&rules, |rule| live::standing_at_last(rule, &[], 0));
     run.count_totals();
@@ -118,12 +125,16 @@ impl Record {
     /// The totals of a rule as its standings have them: those at the taken
     /// positions, and under 13 to 16 the one at position 0.
     fn counted(&self, rule: usize) -> Totals {
-        let taken = usize::try_from(self.count).map_or(EVENT_SLOTS, |n| n.min(EVENT_SLOTS));
-        let mut standings = self.row(rule)[..taken].to_vec();
+        let mut standings = self.row(rule)[..self.taken()].to_vec();
         if (13..=16).contains(&self.table.rules[rule - 1].code) {
             standings.push(self.overall[rule - 1]);
         }
         Totals::of(&standings)
+    }
+
+    /// The number of events, or as many as there are slots.
+    fn taken(&self) -> usize {
+        usize::try_from(self.count).map_or(EVENT_SLOTS, |n| n.min(EVENT_SLOTS))
     }
 
     /// The rules of the table, or as many as there are slots.
@@ -167,16 +178,12 @@ impl Record {
     }
 
     fn checked_for_take(&self, event: &EventSlot) -> Result<(Vec<Rule>, usize), Refusal> {
-        let (rules, count) = self.checked()?;
-        if self.closed {
-            return Err(Refusal::plain(9));
-        }
+        let (rules, count) = self.checked_running()?;
         if !event.is_well_formed(&World::DOCUMENT) {
             return Err(Refusal::at(3, 0));
         }
-        // "time below the last taken"
-        let last = self.events[..count].last();
-        if last.is_some_and(|last| event.time < last.time) {
+        // "time below the last taken"; "an event below a notice is 7 too"
+        if event.time < self.horizon() {
             return Err(Refusal::at(7, 0));
         }
         if count == EVENT_SLOTS {
@@ -185,20 +192,54 @@ impl Record {
         Ok((rules, count))
     }
 
+    /// Keeps the time of a notice, with which the windows may be over. "It is refused
+    /// by 11, on a closed run by 9, outside its range by 3, below the last event or
+    /// notice by 7 (both line 0), in that order". It is no event, so 8 is not among
+    /// these.
+    pub fn notice(mut self, time: u64) -> (Record, Result<(), Refusal>) {
+        match self.checked_for_notice(time) {
+            Err(refusal) => (self, Err(refusal)),
+            Ok((rules, count, time)) => {
+                self.clock = time;
+                self.judge_undecided(&rules, count);
+                self.count_totals();
+                (self, Ok(()))
+            }
+        }
+    }
+
+    fn checked_for_notice(&self, time: u64) -> Result<(Vec<Rule>, usize, u32), Refusal> {
+        let (rules, count) = self.checked_running()?;
+        let time = u32::try_from(time).map_err(|_| Refusal::at(3, 0))?;
+        match time < self.horizon() {
+            true => Err(Refusal::at(7, 0)),
+            false => Ok((rules, count, time)),
+        }
+    }
+
+    /// "the later of last event and last notice": neither an event nor a notice may
+    /// come below it. Without an event it is the kept time.
+    pub fn horizon(&self) -> u32 {
+        let last = self.events[..self.taken()].last();
+        last.map_or(0, |event| event.time).max(self.clock)
+    }
+
     /// "At take, decided standings (fulfilled or violated) at taken positions
-    /// are carried over, all others follow from the events now in the record".
+    /// are carried over, all others follow from the events now in the record", and
+    /// so it is at a notice.
     fn judge_undecided(&mut self, rules: &[Rule], count: usize) {
+        let horizon = self.horizon();
         let events = &self.events[..count];
         for (index, rule) in rules.iter().enumerate() {
             for position in 1..=count {
                 let standing = &mut self.standings[place(index + 1, position)];
                 if !standing.is_decided() {
-                    *standing = live::standing_at_last(rule, events, position);
+                    *standing = live::standing(rule, events, horizon, position);
                 }
             }
         }
         let events = events.to_vec();
-        self.judge_overall(rules, |rule| live::standing_at_last(rule, &events, 0));
+        self.judge_overall(rules, |rule| live::standing(rule, &events, horizon, 0));
     }
 
     /// Gives each rule 13 to 16 that is not decided this standing at position 0.
@@ -210,9 +251,10 @@ impl Record {
         }
     }
 
-    /// Closes the run. "Close: 11, 9."
+    /// Closes the run. "Close: 11, 9." The standings that it leaves "depend on rules
+    /// and events only, and close passes the kept time on unchanged".
     pub fn close(mut self) -> (Record, Result<(), Refusal>) {
-        match self.checked_for_close() {
+        match self.checked_running() {
             Err(refusal) => (self, Err(refusal)),
             Ok((rules, count)) => {
                 for (index, rule) in rules.iter().enumerate() {
@@ -231,7 +273,8 @@ impl Record {
         }
     }
 
-    fn checked_for_close(&self) -> Result<(Vec<Rule>, usize), Refusal> {
+    /// The parts of a run that is not closed: 11, then 9.
+    fn checked_running(&self) -> Result<(Vec<Rule>, usize), Refusal> {
         let parts = self.checked()?;
         match self.closed {
             true => Err(Refusal::plain(9)),

@@ -2,9 +2,9 @@
 //! cards of document 02 add.
 
 /// A refusal as the table's column "Returned" has it: a number, and a line
-/// where the column names one. From take the line of 3, 7 and 8 is 0. Of the
-/// cards' numbers "a number caused by a line comes with that line", so 15 has
-/// none, and 16 and 17 have one.
+/// where the column names one. From take the line of 3, 7 and 8 is 0, and so is
+/// that of 3 and 7 from a notice. Of the cards' numbers "a number caused by a line
+/// comes with that line", so 15 has none, and 16 and 17 have one.
 #[derive(Debug, Clone, Copy, PartialEq, Eq, PartialOrd, Ord, Hash)]
 pub struct Refusal {
     pub number: u8,

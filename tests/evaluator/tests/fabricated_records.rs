@@ -2,6 +2,7 @@
 //! what the accepted calls change.
 
 use evaluator::fabricate::{fabricated, fill_unused, random_event, random_record};
+use evaluator::notices::random_notice;
 use evaluator::random::Random;
 use evaluator::Standing::{self, Fulfilled, Idle, Open, Violated};
 use evaluator::{absorb, place, start, write_cycle_of, write_report_of, write_rules_of};
@@ -139,6 +140,11 @@ fn every_call_refuses_the_same_records_with_11() {
         let rule = random.bits() % 4;
         let answers = [
             record.clone().take(event).1.err(),
+            record
+                .clone()
+                .notice(random.bits() >> random.below(64))
+                .1
+                .err(),
             record.clone().close().1.err(),
             record.standing(rule, random.bits() % 9).err(),
             record.totals(rule).err(),
@@ -164,6 +170,19 @@ fn every_call_refuses_the_same_records_with_11() {
     assert!(by_totals > 200, "{by_totals}");
 }
 
+/// The time of the last event or the kept one, whichever is later.
+fn later_time(record: &Record) -> u32 {
+    let last = match record.count {
+        1..=256 => record.events[record.count as usize - 1].time,
+        _ => 0,
+    };
+    if record.clock > last {
+        record.clock
+    } else {
+        last
+    }
+}
+
 #[test]
 fn refusals_of_take_come_in_their_order() {
     let mut random = Random::new(42);
@@ -171,10 +190,7 @@ fn refusals_of_take_come_in_their_order() {
     for _ in 0..4000 {
         let record = random_fabricated(&mut random);
         let event = random_event(&mut random, &record);
-        let last = match record.count {
-            1..=256 => record.events[record.count as usize - 1].time,
-            _ => 0,
-        };
+        let last = later_time(&record);
         let expected = if is_outside(&record) {
             Some(OUTSIDE)
         } else if record.closed {
@@ -200,6 +216,71 @@ fn refusals_of_take_come_in_their_order() {
         .collect();
     assert_eq!(numbers, [3, 7, 8, 9, 11], "{seen:?}");
     assert!(seen[&None] > 500, "{seen:?}");
+}
+
+#[test]
+fn refusals_of_notices_come_in_their_order() {
+    let mut random = Random::new(50);
+    let mut seen: BTreeMap<Option<Refusal>, usize> = BTreeMap::new();
+    let mut full = 0;
+    for _ in 0..4000 {
+        let record = random_fabricated(&mut random);
+        let time = random_notice(&mut random, &record);
+        let expected = if is_outside(&record) {
+            Some(OUTSIDE)
+        } else if record.closed {
+            Some(Refusal::plain(9))
+        } else if time >= 1 << 32 {
+            Some(Refusal::at(3, 0))
+        } else if time < later_time(&record) as u64 {
+            Some(Refusal::at(7, 0))
+        } else {
+            None
+        };
+        let (next, answer) = record.clone().notice(time);
+        assert_eq!(answer.err(), expected);
+        assert!(answer.is_ok() || next == record);
+        full += usize::from(answer.is_ok() && record.count == 256);
+        *seen.entry(expected).or_default() += 1;
+    }
+    let numbers: Vec<u8> = seen.keys().flatten().map(|r| r.number).collect();
+    assert_eq!(numbers, [3, 7, 9, 11], "{seen:?}");
+    assert!(seen[&None] > 500, "{seen:?}");
+    assert!(full > 0);
+}
+
+/// What an accepted notice may change: the kept time, the undecided standings of the
+/// table's rules up to the count, position 0 of the rules about the cycle among
+/// them, and the totals of these rules, which fit.
+#[test]
+fn a_notice_changes_nothing_else() {
+    let mut random = Random::new(51);
+    let mut accepted = 0;
+    for _ in 0..3000 {
+        let before = random_fabricated(&mut random);
+        let time = random_notice(&mut random, &before);
+        let (after, answer) = before.clone().notice(time);
+        if answer.is_err() {
+            continue;
+        }
+        accepted += 1;
+        let mut expected = before.clone();
+        expected.clock = time as u32;
+        for rule in 1..=before.table.count as usize {
+            for position in 1..=before.count as usize {
+                let at = place(rule, position);
+                if !before.standings[at].is_decided() {
+                    expected.standings[at] = after.standings[at];
+                }
+            }
+            if before.table.rules[rule - 1].code > 12 && before.overall[rule - 1] == Open {
+                expected.overall[rule - 1] = after.overall[rule - 1];
+            }
+            expected.totals[rule - 1] = totals_of(&after, rule);
+        }
+        assert!(after == expected);
+    }
+    assert!(accepted > 500, "{accepted}");
 }
 
 /// What an accepted take may change: the count, one event slot, the undecided

@@ -79,12 +79,20 @@ fn outcomes(
     found
 }
 
+/// Where continuations begin: "no earlier than the later of last event and last
+/// notice".
+fn later(prefix: &[Event], kept: u32) -> u32 {
+    let times = prefix.iter().map(|event| event.time);
+    times.chain([kept]).max().expect("a kept time")
+}
+
 /// [`compare_in`] the small world.
 fn compare(rule: &Rule, all: &[Event], prefix: &[Event], horizon: u32, length: usize) -> bool {
     compare_in(&SMALL, rule, all, prefix, horizon, length)
 }
 
-/// Demand 3's words on the outcomes of all continuations; whether it is open.
+/// Demand 3's words on the outcomes of all continuations; whether it is open. The
+/// horizon may be a kept time below the last event.
 fn compare_in(
     world: &World,
     rule: &Rule,
@@ -93,7 +101,8 @@ fn compare_in(
     horizon: u32,
     length: usize,
 ) -> bool {
-    let expected = outcomes(rule, all, &mut prefix.to_vec(), horizon, length);
+    let earliest = later(prefix, horizon);
+    let expected = outcomes(rule, all, &mut prefix.to_vec(), earliest, length);
     let found = standing_in(world, rule, prefix, horizon, 0);
     let shown = format!("{rule:?} {prefix:?} {horizon}");
     if expected.iter().all(|s| s.is_fulfilled()) || expected.iter().all(|s| s.is_violated()) {
@@ -213,6 +222,39 @@ fn one_event_with_every_horizon() {
         for first in &all {
             for horizon in first.time..=SMALL.largest_time {
                 counts[usize::from(compare(&rule, &all, &[*first], horizon, 1))] += 1;
+            }
+        }
+    }
+    assert!(counts.iter().all(|count| *count > 1000), "{counts:?}");
+}
+
+/// A notice on an empty run: the first event comes at its time or later, so a rule is
+/// decided exactly where a is not in the range from there.
+#[test]
+fn no_events_with_every_kept_time() {
+    let all = all_events(false);
+    for rule in rules(&WINDOWS, &[vec![]]) {
+        for kept in 0..=SMALL.largest_time {
+            let in_range = rule.a <= SMALL.largest_time - kept;
+            assert_eq!(
+                compare(&rule, &all, &[], kept, 2),
+                in_range,
+                "{rule:?} {kept}"
+            );
+        }
+    }
+}
+
+/// Every kept time, also those below the last event.
+#[test]
+fn two_events_with_every_kept_time() {
+    let all = all_events(false);
+    let cycles = all_cycles(&all, 2);
+    let mut counts = [0; 2];
+    for rule in rules(&WINDOWS, &[vec![]]) {
+        for prefix in &cycles {
+            for kept in 0..=SMALL.largest_time {
+                counts[usize::from(compare(&rule, &all, prefix, kept, 2))] += 1;
             }
         }
     }

@@ -73,6 +73,13 @@ fn all_events(world: &World, varied: usize) -> Vec<Event> {
     events
 }
 
+/// Where continuations begin: "no earlier than the later of last event and last
+/// notice".
+fn later(prefix: &[Event], kept: u32) -> u32 {
+    let times = prefix.iter().map(|event| event.time);
+    times.chain([kept]).max().expect("a kept time")
+}
+
 /// Collects the verdicts at `position` in the cycle and in all its
 /// continuations by at most `length` events, none before `earliest`.
 fn enumerate(
@@ -109,7 +116,8 @@ fn standing_from(outcomes: &BTreeSet<Standing>) -> Standing {
     Open
 }
 
-/// Compares both standings at every position of a prefix.
+/// Compares both standings at every position of a prefix. The horizon may be a kept
+/// time below the last event.
 fn compare(
     world: &World,
     all: &[Event],
@@ -125,7 +133,7 @@ fn compare(
             rule,
             all,
             &mut cycle,
-            horizon,
+            later(prefix, horizon),
             position,
             length,
             &mut outcomes,
@@ -324,6 +332,22 @@ fn all_prefixes_of_two_events() {
     }
 }
 
+/// Every kept time, also those below the last event.
+#[test]
+fn all_prefixes_of_two_events_with_every_kept_time() {
+    let all = all_events(&THREE_ACTIVITIES, 0);
+    for rule in rules(&WINDOWS, &[(vec![], vec![])]) {
+        for first in &all {
+            for second in all.iter().filter(|event| event.time >= first.time) {
+                for kept in 0..=THREE_ACTIVITIES.largest_time {
+                    let prefix = [*first, *second];
+                    compare(&THREE_ACTIVITIES, &all, &rule, &prefix, kept, 2);
+                }
+            }
+        }
+    }
+}
+
 #[test]
 fn all_prefixes_of_three_events_with_three_activities() {
     let all = all_events(&THREE_ACTIVITIES, 0);
@@ -357,6 +381,19 @@ fn random_prefixes_with_two_readings() {
             for horizon in last..=TWO_READINGS.largest_time {
                 compare(&TWO_READINGS, &all, &rule, &prefix, horizon, 2);
             }
+        }
+    }
+}
+
+/// With readings and every kept time, also those below the last event.
+#[test]
+fn random_prefixes_of_two_events_with_every_kept_time() {
+    let all = all_events(&ONE_READING, 1);
+    let mut random = Random::new(4);
+    for rule in rules(&WINDOWS, &conditions_on_one_reading()) {
+        let prefix = random_prefix(&mut random, &all, 2);
+        for kept in 0..=ONE_READING.largest_time {
+            compare(&ONE_READING, &all, &rule, &prefix, kept, 2);
         }
     }
 }

@@ -8,8 +8,8 @@
 //! was compared, or the first difference. A difference names its kind and seed;
 //! `long THAT_SEED 1 THAT_KIND` shows it again.
 
-use differential::cases::{bands, crowded, notebook, overall, printed, records, reported};
-use differential::cases::{reports, running, tally, texts, written};
+use differential::cases::{bands, crowded, notebook, notices, overall, printed, records};
+use differential::cases::{reported, reports, running, tally, texts, written};
 use differential::compare::compare;
 use differential::counts::Counts;
 use differential::differ::Difference;
@@ -23,7 +23,7 @@ use std::time::Instant;
 type Kind = (&'static str, fn(u64) -> Case);
 
 /// Each kind of case that `probe` answers.
-const KINDS: [Kind; 21] = [
+const KINDS: [Kind; 23] = [
     (running::KIND, running::case),
     (crowded::KIND, crowded::case),
     (crowded::STALE, crowded::stale_case),
@@ -31,6 +31,8 @@ const KINDS: [Kind; 21] = [
     (bands::STALE, bands::stale_case),
     (overall::KIND, overall::case),
     (overall::STALE, overall::stale_case),
+    (notices::KIND, notices::case),
+    (notices::STALE, notices::stale_case),
     (records::KIND, records::case),
     (records::STALE, records::stale_case),
     (texts::RULES, texts::rules_case),
@@ -48,9 +50,10 @@ const KINDS: [Kind; 21] = [
 ];
 
 /// The kinds of long cycles; of these a hundredth of the cases is compared.
-const FULL_KINDS: [Kind; 3] = [
+const FULL_KINDS: [Kind; 4] = [
     (running::FULL, running::full_case),
     (crowded::FULL, crowded::full_case),
+    (notices::FULL, notices::full_case),
     (notebook::FULL, notebook::full_case),
 ];
 

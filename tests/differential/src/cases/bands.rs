@@ -6,6 +6,7 @@ use crate::cases::records::with_any_standings;
 use crate::cases::running::{compare_all, run_through};
 use crate::script::{table_of, Case, Session};
 use evaluator::bands::banded_rules;
+use evaluator::fabricate::any_clock;
 use evaluator::random::{random_cycle, Random};
 use evaluator::{printed, write_cycle, write_rules, Event, Rule};
 
@@ -51,7 +52,9 @@ pub fn stale_case(seed: u64) -> Case {
     let (rules, events) = random_banded(&mut random);
     let taken = events.len() - 1 - random.below(2).min(events.len() - 1);
     let (before, after) = events.split_at(taken);
-    let run = with_any_standings(&mut random, &rules, before);
+    let mut run = with_any_standings(&mut random, &rules, before);
+    // Not above the event to come.
+    run.clock = any_clock(&mut random, &run).min(after[0].time);
     let mut session = Session::on(STALE, seed, run);
     for event in after {
         session.take(*event).expect("a well-formed event");

@@ -211,6 +211,7 @@ pub fn allowed(closed: bool) -> Vec<Named> {
         allowed_of_events(closed),
         overall_allowed(closed),
         unread_totals(closed),
+        kept_times(closed),
     ]
     .concat()
 }
@@ -502,4 +503,19 @@ pub fn unread_totals(closed: bool) -> Vec<Named> {
     };
     let bases = [base(closed), overall_base(closed)];
     bases.map(past_rules).concat()
+}
+
+/// Any kept time: below the events, at the last one, which is at 8, and above it.
+/// None of these is a cause of 11.
+pub fn kept_times(closed: bool) -> Vec<Named> {
+    let of_times = |base: Record| {
+        let runs = Vec::new();
+        let mut changed = Changed { base, runs };
+        for clock in [1, 5, 7, 8, 9, 508, u32::MAX - 1, u32::MAX] {
+            changed.add(format!("kept time {clock}"), |run| run.clock = clock);
+        }
+        changed.runs
+    };
+    let bases = [base(closed), overall_base(closed)];
+    bases.map(of_times).concat()
 }

@@ -6,6 +6,7 @@ use crate::cases::records::with_any_standings;
 use crate::cases::running::run_through;
 use crate::script::{table_of, Case, Session};
 use evaluator::crowded::{crowded_cycle, crowded_rules};
+use evaluator::fabricate::any_clock;
 use evaluator::random::Random;
 use evaluator::{printed, write_cycle, write_rules, Event, Rule};
 
@@ -66,7 +67,9 @@ pub fn stale_case(seed: u64) -> Case {
     let mut random = Random::new(seed);
     let (rules, events) = random_crowd(&mut random);
     let (before, taken) = events.split_at(events.len() - 1 - random.below(2));
-    let run = with_any_standings(&mut random, &rules, before);
+    let mut run = with_any_standings(&mut random, &rules, before);
+    // Not above the event to come.
+    run.clock = any_clock(&mut random, &run).min(taken[0].time);
     let mut session = Session::on(STALE, seed, run);
     for event in taken {
         session.take(*event).expect("a well-formed event");

@@ -5,7 +5,7 @@ use crate::cases::running::refused_event;
 use crate::differ::differing_used_fields;
 use crate::script::{table_of, Case, Session};
 use evaluator::random::{random_cycle, random_rules, Random};
-use evaluator::{write_cycle, write_rules, Rule};
+use evaluator::{write_cycle, write_rules, Record, Rule};
 
 pub const KIND: &str = "notebook";
 pub const FULL: &str = "full-notebook";
@@ -37,9 +37,13 @@ fn case_of(mut session: Session, random: &mut Random, rules: &[Rule], length: us
     session.case
 }
 
-/// The notebook on the texts of the rules and the events of a closed run.
+/// The notebook on the texts of the rules and the events of a closed run. It keeps
+/// no time.
 pub(super) fn read_again(session: &mut Session, rules: &[Rule]) {
-    let grown = session.run.clone();
+    let grown = Record {
+        clock: 0,
+        ..session.run.clone()
+    };
     let taken = &grown.events[..grown.count as usize];
     let answer = session.notebook(write_rules(rules), write_cycle(taken));
     answer.expect("texts of valid rules and taken events");

@@ -5,7 +5,7 @@ use crate::cases::notebook::read_again;
 use crate::cases::records::{call, with_any_standings, FILLED};
 use crate::cases::running::{ask_standing, refused_event};
 use crate::script::{table_of, Case, Session};
-use evaluator::fabricate::{change_all, fill_unused, Part};
+use evaluator::fabricate::{any_clock, change_all, fill_unused, Part};
 use evaluator::random::{random_cycle, random_event_rule, random_overall_rule, Random};
 use evaluator::{printed, report_of, write_cycle, write_rules};
 use evaluator::{Event, Record, Refusal, Rule};
@@ -118,6 +118,8 @@ pub fn stale_case(seed: u64) -> Case {
     let events = random_cycle(&mut random, &rules, taken + more);
     let (before, after) = events.split_at(taken);
     let mut run = with_any_standings(&mut random, &rules, before);
+    // Not above the event to come.
+    run.clock = any_clock(&mut random, &run).min(after[0].time);
     if random.one_in(FILLED) {
         fill_unused(&mut random, &mut run);
     }
@@ -141,8 +143,8 @@ fn carried_case(seed: u64, run: Record, events: &[Event]) -> Case {
     session.case
 }
 
-/// Perhaps refused: position 0, a standing, the count, the phase or a total is
-/// changed; any answer will do.
+/// Perhaps refused: position 0, a standing, the count, the phase, a total or the kept
+/// time is changed; any answer will do.
 fn changed_case(seed: u64, random: &mut Random, mut run: Record) -> Case {
     let parts = [
         Part::Overall,
@@ -152,6 +154,7 @@ fn changed_case(seed: u64, random: &mut Random, mut run: Record) -> Case {
         Part::RuleSlot,
         Part::Closed,
         Part::Totals,
+        Part::Clock,
     ];
     let parts = (0..1 + random.below(2))
         .map(|_| random.pick(&parts))

@@ -3,8 +3,9 @@
 
 use crate::cases::running::ask_standing;
 use crate::script::{table_of, Case, Session};
-use evaluator::fabricate::{fabricated, fill_unread_overall, fill_unused};
+use evaluator::fabricate::{any_clock, fabricated, fill_unread_overall, fill_unused};
 use evaluator::fabricate::{random_event, random_record};
+use evaluator::notices::random_notice;
 use evaluator::random::{random_cycle, random_rules, Random};
 use evaluator::Standing::{Fulfilled, Idle, Open, Violated};
 use evaluator::{place, start, Event, Record, Refusal, Rule, Tally};
@@ -53,17 +54,21 @@ pub fn case(seed: u64) -> Case {
 /// One call with arguments near the limits; any answer will do.
 pub(super) fn call(session: &mut Session, random: &mut Random) {
     let rules = session.run.table.count;
-    let _ = match random.below(10) {
+    let _ = match random.below(13) {
         0..=4 => {
             let event = random_event(random, &session.run);
             session.take(event)
         }
-        5 => session.close(),
-        6 => {
+        5..=7 => {
+            let time = random_notice(random, &session.run);
+            session.notice(time)
+        }
+        8 => session.close(),
+        9 => {
             let table = session.run.table.clone();
             session.start(&table)
         }
-        7 => session.totals(number_near(random, rules, true)),
+        10 => session.totals(number_near(random, rules, true)),
         _ => {
             let rule = number_near(random, rules, false) as u32;
             let position = number_near(random, session.run.count, false) as u32;
@@ -83,8 +88,8 @@ fn number_near(random: &mut Random, count: u64, wide: bool) -> u64 {
     }
 }
 
-/// A valid record whose standings have nothing to do with its events: decided
-/// ones are carried over, all others judged anew.
+/// A valid record whose standings have nothing to do with its events, with any kept
+/// time: decided ones are carried over, all others judged anew.
 pub fn stale_case(seed: u64) -> Case {
     let mut random = Random::new(seed);
     let rules = random.pick(&[1, 1, 2, 3, 16]);
@@ -95,6 +100,7 @@ pub fn stale_case(seed: u64) -> Case {
     // Long runs of many rules take the evaluator too long.
     let rules = if length >= 100 { rules.min(2) } else { rules };
     let mut run = stale_run(&mut random, rules, length);
+    run.clock = any_clock(&mut random, &run);
     if random.one_in(FILLED) {
         fill_unused(&mut random, &mut run);
     }
@@ -153,9 +159,8 @@ pub(super) fn with_any_standings(random: &mut Random, rules: &[Rule], events: &[
 fn next_event(random: &mut Random, run: &Record) -> Event {
     let rules = run.table.rules().expect("a valid table");
     let mut event = random_cycle(random, &rules, 1)[0];
-    let last = run.events[..run.count as usize].last();
-    let last = last.map_or(0, |event| event.time);
-    event.time = last.saturating_add(random.pick(&[0, 0, 1, 2, 100, 500]));
+    let steps = [0, 0, 1, 2, 100, 500];
+    event.time = run.horizon().saturating_add(random.pick(&steps));
     event
 }
 
@@ -167,6 +172,10 @@ const FULL: Tally = Tally {
     violated: u32::MAX,
 };
 
+/// Times that a notice is refused with 3 for, one that it is accepted with, and one
+/// that is below an event or a notice.
+const NOTICES: [u64; 4] = [1 << 32, u64::MAX, u32::MAX as u64, 0];
+
 /// A record with one cause of 11: every call is refused with it, also where 9,
 /// 10, 3, 7 or 14 would be next, and nothing changes.
 pub fn cause_case(number: u64, run: Record) -> Case {
@@ -177,6 +186,10 @@ pub fn cause_case(number: u64, run: Record) -> Case {
     session.compare_run();
     for event in [Event::new(u32::MAX, 0), Event::new(0, 65), Event::new(0, 1)] {
         assert_eq!(session.take(event), outside);
+    }
+    session.compare_run();
+    for time in NOTICES {
+        assert_eq!(session.notice(time), outside);
     }
     session.compare_run();
     assert_eq!(session.close(), outside);
@@ -222,6 +235,12 @@ pub fn allowed_case(number: u64, run: Record) -> Case {
     ] {
         assert_eq!(session.take(event), Err(refused(number, 0)));
     }
+    for (time, number) in [(1 << 32, 3), (u64::MAX, 3), (4, 7)] {
+        assert_eq!(session.notice(time), Err(refused(number, 0)));
+    }
+    session.compare_run();
+    let horizon = u64::from(session.run.horizon());
+    assert_eq!(session.notice(horizon).is_ok(), !closed);
     session.compare_run();
     let answer = session.take(Event::new(u32::MAX, 2));
     assert_eq!(answer.is_ok(), !closed);

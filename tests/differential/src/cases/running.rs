@@ -79,12 +79,9 @@ pub(super) fn ask_standing(session: &mut Session, rule: u32, position: u32) {
 }
 
 /// The event with an activity outside its range, or with a time below the last
-/// one, or with both.
+/// event or notice, or with both.
 pub fn refused_event(random: &mut Random, run: &Record, mut event: Event) -> Event {
-    let last = match run.count {
-        0 => 0,
-        count => run.events[count as usize - 1].time,
-    };
+    let last = run.horizon();
     let falling = last > 0 && random.one_in(2);
     if falling {
         event.time = random.pick(&[0, last / 2, last - 1]);

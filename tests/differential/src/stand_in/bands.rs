@@ -128,17 +128,29 @@ fn apart(condition: &[Comparison]) -> Vec<Comparison> {
 /// Whether a decided activation without a target waits for one if its comparisons
 /// are taken apart.
 fn is_awaited(rule: &Rule, events: &[Event], position: usize, right: Standing) -> bool {
+    let none = [Standing::Violated(0), Standing::Fulfilled(0)].contains(&right);
+    let last = events[events.len() - 1].time;
+    let apart = rule.clone().with_correlation(apart(&rule.correlation));
+    none && would_wait(rule, &apart, events, position, last)
+}
+
+/// Whether an activation without a target waits for one if it is judged by another
+/// rule and horizon.
+pub(super) fn would_wait(
+    rule: &Rule,
+    judged: &Rule,
+    events: &[Event],
+    position: usize,
+    horizon: u32,
+) -> bool {
     let looks_ahead = match rule.code {
         1 | 2 | 8 | 9 => true,
         3 => !events[position..].iter().any(|e| is_activation(rule, e)),
         4 | 11 => position == events.len(),
         _ => false,
     };
-    let none = [Standing::Violated(0), Standing::Fulfilled(0)].contains(&right);
-    let last = events[events.len() - 1].time;
-    let apart = rule.clone().with_correlation(apart(&rule.correlation));
     let alone = &events[position - 1..position];
-    none && looks_ahead && standing(&apart, alone, last, 1) == Standing::Open
+    looks_ahead && standing(judged, alone, horizon, 1) == Standing::Open
 }
 
 /// Position 0 if the comparisons are taken apart: open where it was decided without

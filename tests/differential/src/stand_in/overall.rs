@@ -25,6 +25,9 @@ impl State {
         if self.has(Mistake::StartsIdle) {
             run.overall.fill(Standing::Idle);
         }
+        if self.has(Mistake::StartsWithOldClock) {
+            run.clock = self.run.clock;
+        }
         self.change_totals(b's', &mut run);
         Ok(run)
     }
@@ -77,6 +80,7 @@ impl State {
             }
             Mistake::DecidesAbsenceAtClose if rule.code == 14 => Standing::Open,
             Mistake::JudgesEachAlone => each_alone_at_0(rule, events, right),
+            Mistake::JudgesByTheClockAlone => self.lapsed_at_0(rule, events, right),
             _ => right,
         }
     }

@@ -5,8 +5,9 @@ use evaluator::slots::RULE_SLOTS;
 use evaluator::{place, Record, Standing, Totals};
 
 /// A mistake for each call that may forget to look at the stored totals.
-const UNCHECKED: [(u8, Mistake); 7] = [
+const UNCHECKED: [(u8, Mistake); 8] = [
     (b'e', Mistake::TakesMiscounted),
+    (b'k', Mistake::NoticesMiscounted),
     (b'x', Mistake::ClosesMiscounted),
     (b'g', Mistake::ShowsMiscounted),
     (b'o', Mistake::AnswersMiscounted),
@@ -19,7 +20,7 @@ impl State {
     /// The run as a call sees it: the totals that it does not look at are right.
     pub(super) fn seen_by(&self, letter: u8) -> Record {
         let mut run = self.run.clone();
-        let is_9 = self.run.closed && b"ex".contains(&letter);
+        let is_9 = self.run.closed && b"ekx".contains(&letter);
         let closed_first = is_9 && self.has(Mistake::ClosedBeforeTotals);
         if UNCHECKED.contains(&(letter, self.mistake)) || closed_first {
             run.count_totals();
@@ -48,11 +49,13 @@ impl State {
             (b's', Mistake::StartsWithNoTotals) | (b'N', Mistake::ReadsNoTotals) => {
                 run.totals = [Totals::default(); RULE_SLOTS];
             }
-            (b'e', Mistake::CountsBeforeJudging) | (b'x', Mistake::ClosesWithOldTotals) => {
+            (b'e', Mistake::CountsBeforeJudging)
+            | (b'k', Mistake::NoticesKeepTotals)
+            | (b'x', Mistake::ClosesWithOldTotals) => {
                 run.totals = self.run.totals;
             }
             (b'e', Mistake::CountsByDifference) => self.count_differences(run),
-            (b'e' | b'x', Mistake::ClearsUnusedTotals) => {
+            (b'e' | b'k' | b'x', Mistake::ClearsUnusedTotals) => {
                 run.totals[used..].fill(Totals::default());
             }
             _ => {}

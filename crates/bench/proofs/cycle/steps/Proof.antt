@@ -1,20 +1,20 @@
 -- A loop over the turns.
 use borrow.Author.Needs.{needs}
 use Prim.Native.Nat.{_-_, _≤_}
-use Rattle.bench.proofs.cycle.closes.Statement.{statement}
-use Rattle.bench.proofs.cycle.closes.Tie as tie
+use Rattle.bench.proofs.cycle.steps.Statement.{statement}
+use Rattle.bench.proofs.cycle.steps.Tie as tie
 
 abbrev Inv-loop : tie.InvT-loop
-Inv-loop run turns sum₀ i₀ sum i = i ≤ turns
+Inv-loop letter run event turns sum₀ i₀ sum i = i ≤ turns
 
 abbrev μ-loop : tie.MeasureT-loop
-μ-loop run turns sum₀ i₀ sum i = turns - i
+μ-loop letter run event turns sum₀ i₀ sum i = turns - i
 
 loop-holds : tie.Need-loop-holds Inv-loop μ-loop
 loop-holds c = search needs
 
-close-requires : tie.Need-close-requires Inv-loop μ-loop
-close-requires c κs = search needs
+step-requires : tie.Need-step-requires Inv-loop μ-loop
+step-requires c κs = search needs
 
 of-outcome-requires : tie.Need-of-outcome-requires Inv-loop μ-loop
 of-outcome-requires c κs = search needs
@@ -40,14 +40,14 @@ loop-again c = search needs
 returns : tie.Need-returns Inv-loop μ-loop
 returns c = search needs
 
-pub closes-spec : {M : Type 1} → statement M
-closes-spec =
+pub steps-spec : {M : Type 1} → statement M
+steps-spec =
     tie.close
     (tie.spec
     Inv-loop
     μ-loop
     loop-holds
-    close-requires
+    step-requires
     of-outcome-requires
     joined-requires
     of-run-requires
