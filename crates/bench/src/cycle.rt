@@ -14,18 +14,16 @@ use run::start::new_run;
 use standings::totals::zero_totals;
 
 // The run of a table that has taken the first n events.
-fn taken(table: Table, events: [Event; EVENTS], n: usize) -> Run {
-    let step = Run::start(table);
-    let mut run = step.run;
+fn taken(table: Table, events: [Event; EVENTS], n: usize) -> Step {
+    let mut step = Run::start(table);
     for p in 0..n {
         if EVENTS <= p {
-            return run;
+            return step;
         }
         let event = events[p];
-        let step = run.take(event);
-        run = step.run;
+        step = step.run.take(event);
     }
-    run
+    step
 }
 
 // The same run, judged at once.
@@ -48,19 +46,32 @@ fn judged(table: Table, events: [Event; EVENTS], n: usize) -> Run {
     run
 }
 
-// t an event is taken, l a clock notice comes at its time, x the run is closed.
-fn step(letter: u8, run: Run, event: Event) -> Step {
-    match letter {
-        b't' => run.take(event),
-        b'l' => run.notice(event.time as u64),
-        _ => run.close(),
-    }
-}
-
-fn steps(letter: u8, run: Run, event: Event, turns: usize) -> u64 {
+fn takes(run: Run, event: Event, turns: usize) -> u64 {
     let mut sum: u64 = 0;
     for i in 0..turns {
-        let step = step(letter, run, event);
+        let step = run.take(event);
+        let outcome = step.outcome;
+        sum = weight::joined(sum, weight::of_outcome(outcome));
+        sum = weight::joined(sum, weight::of_run(step.run));
+    }
+    sum
+}
+
+fn notices(run: Run, time: u32, turns: usize) -> u64 {
+    let mut sum: u64 = 0;
+    for i in 0..turns {
+        let step = run.notice(time as u64);
+        let outcome = step.outcome;
+        sum = weight::joined(sum, weight::of_outcome(outcome));
+        sum = weight::joined(sum, weight::of_run(step.run));
+    }
+    sum
+}
+
+fn closes(run: Run, turns: usize) -> u64 {
+    let mut sum: u64 = 0;
+    for i in 0..turns {
+        let step = run.close();
         let outcome = step.outcome;
         sum = weight::joined(sum, weight::of_outcome(outcome));
         sum = weight::joined(sum, weight::of_run(step.run));
@@ -71,8 +82,8 @@ fn steps(letter: u8, run: Run, event: Event, turns: usize) -> u64 {
 fn cycles(table: Table, events: [Event; EVENTS], n: usize, turns: usize) -> u64 {
     let mut sum: u64 = 0;
     for i in 0..turns {
-        let run = taken(table, events, n);
-        let step = run.close();
+        let last = taken(table, events, n);
+        let step = last.run.close();
         sum = weight::joined(sum, weight::of_standings(step.run));
     }
     sum
@@ -100,26 +111,26 @@ fn event_at(events: [Event; EVENTS], p: usize) -> Event {
     if p < EVENTS { events[p] } else { events[0] }
 }
 
-// What is asked of one run.
-fn asked(letter: u8, run: Run, event: Event, turns: usize) -> u64 {
-    match letter {
-        b't' | b'l' | b'x' => steps(letter, run, event, turns),
-        b'w' => written::cycles(run, turns),
-        b's' => standings(run, turns),
-        _ => totals(run, turns),
-    }
-}
-
 pub fn measured(letter: u8, turns: usize, rules: &[u8], cycle: &[u8]) -> u64 {
     let read = cycle_text::read_cycle(cycle);
     let events = read.events;
     let n = read.count;
     let table = rule_text::read_rules(rules).table;
-    let last = event_at(events, less_one(n));
     match letter {
+        b't' => takes(
+            judged(table, events, less_one(n)),
+            event_at(events, less_one(n)),
+            turns,
+        ),
+        b'l' => notices(
+            judged(table, events, n),
+            event_at(events, less_one(n)).time,
+            turns,
+        ),
         b'c' => cycles(table, events, n, turns),
-        b'p' => written::rules(table, turns),
-        b't' => asked(letter, judged(table, events, less_one(n)), last, turns),
-        _ => asked(letter, judged(table, events, n), last, turns),
+        b'x' => closes(judged(table, events, n), turns),
+        b'w' | b'p' => written::texts(letter, judged(table, events, n), turns),
+        b's' => standings(judged(table, events, n), turns),
+        _ => totals(judged(table, events, n), turns),
     }
 }

@@ -12,11 +12,6 @@ fn cycles_into(out: &mut [u8], run: Run, turns: usize) -> u64 {
     weight::joined(sum, weight::of_text(out))
 }
 
-pub fn cycles(run: Run, turns: usize) -> u64 {
-    let mut out = io::large_buffer();
-    cycles_into(&mut out, run, turns)
-}
-
 fn rules_into(out: &mut [u8], table: Table, turns: usize) -> u64 {
     let mut sum: u64 = 0;
     for i in 0..turns {
@@ -26,7 +21,11 @@ fn rules_into(out: &mut [u8], table: Table, turns: usize) -> u64 {
     weight::joined(sum, weight::of_text(out))
 }
 
-pub fn rules(table: Table, turns: usize) -> u64 {
+// w the events of the run are written, p its rules.
+pub fn texts(letter: u8, run: Run, turns: usize) -> u64 {
     let mut out = io::large_buffer();
-    rules_into(&mut out, table, turns)
+    if letter == b'w' {
+        return cycles_into(&mut out, run, turns);
+    }
+    rules_into(&mut out, run.table, turns)
 }

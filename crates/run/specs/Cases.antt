@@ -11,16 +11,17 @@ use Rattle.declare.specs.declared.Rule.{Rule}
 use Rattle.declare.specs.declared.Standing.{Standing}
 use Rattle.declare.specs.declared.Standing.the-variants.{Idle, Open, Fulfilled, Violated}
 use Rattle.declare.specs.Rules.{noRule, ruleAt}
+use Rattle.declare.specs.Answers.{Answer, accepted, refused, afterCall}
 use Rattle.declare.specs.Slots.{eventSlots, tableOf}
 use Rattle.declare.specs.EdgeCycles.{always, window, rule, event}
 use Rattle.standings.specs.declared.Cell.{Cell}
 use Rattle.standings.specs.declared.totals.Totals.{Totals}
 use Rattle.standings.specs.Totals.{totalsBy, idleTotals}
 use Rattle.run.specs.declared.Run.{Run}
-use Rattle.run.specs.Records.{standingAt, totalsIn, storedTotals, withTotals, counted, validRun}
+use Rattle.run.specs.Records.{withClock, standingAt, totalsIn, storedTotals, withTotals, counted, validRun}
 use Rattle.run.specs.Start.{started}
-use Rattle.run.specs.Calls.{judgedRun}
-use Rattle.run.specs.Close.{closedRun, finishedRun}
+use Rattle.run.specs.Calls.{judgedRun, takeOf, noticeOf}
+use Rattle.run.specs.Close.{closedRun, closeOf, runningRun, finishedRun}
 use Rattle.run.specs.Queries.{oneOf, isPosition}
 
 -- ---- how the cases are written
@@ -207,6 +208,75 @@ judgements =
     ∷ judged (event 0 1 ∷ event 1 1 ∷ event 2 9 ∷ []) 3 (Fulfilled 9 ∷ Violated 9 ∷ Open ∷ []) is (Fulfilled 9 ∷ Violated 9 ∷ Idle ∷ [])
     ∷ []
 
+-- ---- notice
+
+-- response within 500 ms, activated at 3, and a kept time
+abbrev pub waiting : ℕ → Run
+waiting clock =
+    withClock (recordOf false (rule 2 2 (window 0 (At 500)) always ∷ []) 1 (event 3 1 ∷ []) 1 (Open ∷ [])) clock
+
+abbrev pub overWith : ℕ → Run
+overWith clock =
+    withClock (recordOf true (rule 2 2 (window 0 (At 500)) always ∷ []) 1 (event 3 1 ∷ []) 1 (Violated 0 ∷ [])) clock
+
+-- the number that a call is refused with, 0 if it is accepted
+abbrev pub numberIn : Answer Run → ℕ
+numberIn (accepted r) = 0
+numberIn (refused n) = n
+
+unfoldable pub callNumbers : List (Case ℕ)
+callNumbers =
+    -- not below the last event, nor below the last notice; the last time there is
+    numberIn (noticeOf (waiting 0) 2) is 7
+    ∷ numberIn (noticeOf (waiting 0) 3) is 0
+    ∷ numberIn (noticeOf (waiting 5) 4) is 7
+    ∷ numberIn (noticeOf (waiting 5) 5) is 0
+    ∷ numberIn (noticeOf (waiting 5) 4294967295) is 0
+    ∷ numberIn (noticeOf (waiting 5) 4294967296) is 3
+    -- 9 before 3 and 7, 11 before 9
+    ∷ numberIn (noticeOf (overWith 5) 5) is 9
+    ∷ numberIn (noticeOf (overWith 5) 4294967296) is 9
+    ∷ numberIn (noticeOf (overWith 5) 4) is 9
+    ∷ numberIn (noticeOf (recordOf true (noRule ∷ []) 1 [] 0 []) 4294967296) is 11
+    -- an event below a notice is 7 too
+    ∷ numberIn (takeOf (waiting 5) (event 4 9)) is 7
+    ∷ numberIn (takeOf (waiting 5) (event 5 9)) is 0
+    -- any kept time is valid
+    ∷ numberIn (noticeOf (withClock (ofEvents [] 0) 4294967295) 4294967295) is 0
+    ∷ []
+
+-- the kept time after a call, and after closing
+abbrev pub clockAfter : Run → Answer Run → ℕ
+clockAfter before answer = afterCall before answer .clock
+
+unfoldable pub clocks : List (Case ℕ)
+clocks =
+    started (tableOf (coded 2 ∷ [])) .clock is 0
+    ∷ clockAfter (waiting 5) (noticeOf (waiting 5) 7) is 7
+    ∷ clockAfter (waiting 5) (noticeOf (waiting 5) 4) is 5
+    ∷ clockAfter (waiting 5) (takeOf (waiting 5) (event 9 9)) is 5
+    ∷ clockAfter (waiting 5) (closeOf (waiting 5)) is 5
+    ∷ finishedRun (tableOf (coded 2 ∷ [])) 1 (eventSlots (event 3 1 ∷ [])) .clock is 0
+    ∷ runningRun (tableOf (coded 2 ∷ [])) 1 (eventSlots (event 3 1 ∷ [])) 8 .clock is 8
+    ∷ []
+
+-- the standings after a notice
+abbrev pub noticed : Run → ℕ → List Standing
+noticed before time = standingsOf (afterCall before (noticeOf before time))
+
+unfoldable pub lapses : List (Case (List Standing))
+lapses =
+    noticed (waiting 0) 502 is (Open ∷ [])
+    ∷ noticed (waiting 0) 503 is (Violated 0 ∷ [])
+    -- a refused one decides nothing
+    ∷ noticed (waiting 503) 502 is (Open ∷ [])
+    -- judged as by a take: what is decided stays, whatever the events say
+    ∷ noticed (recordOf false (rule 2 2 (window 0 (At 500)) always ∷ []) 1 (event 3 1 ∷ event 3 1 ∷ []) 2 (Fulfilled 2 ∷ Idle ∷ [])) 503 is (Fulfilled 2 ∷ Violated 0 ∷ [])
+    -- all events judged at once, after a notice
+    ∷ (standingAt (runningRun (tableOf (rule 2 2 (window 0 (At 500)) always ∷ [])) 1 (eventSlots (event 3 1 ∷ [])) 502) 1 1 ∷ []) is (Open ∷ [])
+    ∷ (standingAt (runningRun (tableOf (rule 2 2 (window 0 (At 500)) always ∷ [])) 1 (eventSlots (event 3 1 ∷ [])) 503) 1 1 ∷ []) is (Violated 0 ∷ [])
+    ∷ []
+
 -- ---- close
 
 -- the standings after closing a run of one rule and three events
@@ -323,6 +393,9 @@ pub record Checked : Type 0 where
   pub of-starts : AsExpected starts
   pub of-zeros : AsExpected zeros
   pub of-takes : AsExpected judgements
+  pub of-call-numbers : AsExpected callNumbers
+  pub of-clocks : AsExpected clocks
+  pub of-lapses : AsExpected lapses
   pub of-closings : AsExpected closings
   pub of-finished : AsExpected finished
   pub of-numbers : AsExpected numbers

@@ -3,9 +3,9 @@ ghost use mathlib.Core.Path.{_≡_};
 ghost use Rattle.declare.specs.Answers.{afterCall};
 ghost use Rattle.run.specs.Answers.{stepAnswer};
 ghost use Rattle.run.specs.Calls.{noticeOf};
-use crate::Outcome;
 use crate::Run;
 use crate::Step;
+use crate::horizon;
 use crate::record::valid_run;
 use declare::LATEST;
 use declare::Refusal;
@@ -13,7 +13,7 @@ use declare::Refusal;
 impl Run {
     // The run with this time kept, its standings judged anew. Refused with 11, 9, 3 or 7, the run
     // then as it was.
-    pub fn notice(mut self, time: u64) -> Step
+    pub fn notice(self, time: u64) -> Step
         ensures { λ r. ⌜ (stepAnswer r ≡ noticeOf self time) × (r .run ≡ afterCall self (noticeOf self time)) ⌝ }
     {
         if !valid_run(self) {
@@ -25,13 +25,12 @@ impl Run {
         if (LATEST as u64) < time {
             return self.refused(Refusal::OutOfRange);
         }
-        if (time as u32) < self.horizon() {
+        let clock = time as u32;
+        let n = self.count;
+        let events = self.events;
+        if clock < horizon(n, events, self.clock) {
             return self.refused(Refusal::TimeFalls);
         }
-        self.clock = time as u32;
-        Step {
-            outcome: Outcome::Done,
-            run: self.judged(),
-        }
+        self.accepted(n, events, clock)
     }
 }

@@ -5,10 +5,10 @@ use Rattle.bench.proofs.cycle.taken.Statement.{statement}
 use Rattle.bench.proofs.cycle.taken.Tie as tie
 
 abbrev Inv-loop : tie.InvT-loop
-Inv-loop n events run₀ p₀ run p = p ≤ n
+Inv-loop n events step₀ p₀ step p = p ≤ n
 
 abbrev μ-loop : tie.MeasureT-loop
-μ-loop n events run₀ p₀ run p = n - p
+μ-loop n events step₀ p₀ step p = n - p
 
 start-requires : tie.Need-start-requires Inv-loop μ-loop
 start-requires c κs = search needs

@@ -8,8 +8,7 @@ use borrow.Author.Tests.{not-true, not-false, lt-leb, le-leb}
 use Rattle.declare.specs.Events.{latest}
 use Rattle.declare.specs.Refusals.{numberOf}
 use Rattle.run.specs.declared.Run.{Run}
-use Rattle.run.specs.declared.Outcome.the-variants.{Done}
-use Rattle.run.specs.Records.{validRun}
+use Rattle.run.specs.Records.{eventsOf, validRun}
 use Rattle.run.specs.Calls.{entered}
 use Rattle.run.proofs.Bounds.{valid-parts}
 use Rattle.run.proofs.Guards.{refuses, accepts, call-invalid, call-closed, notice-out-of-range, notice-falls, notice-accepted}
@@ -48,36 +47,33 @@ returns-3 c =
     refuses (c .refused3 .ensures)
     (notice-out-of-range _ _ (past-valid (c .before .before .before)) (c .before .before .if2 .left) (lt-leb _ latest (c .before .if3 .taken)))
 
-cast-if4 : tie.Need-cast-if4
-cast-if4 c = search needs
+cast-clock : tie.Need-cast-clock
+cast-clock c = search needs
 
 horizon-requires : tie.Need-horizon-requires
-horizon-requires c κs = valid-parts _ (past-valid (c .before .before)) .events-fit
+horizon-requires c κs = valid-parts _ (past-valid (c .before .before .before)) .events-fit
 
 refused-requires-4 : tie.Need-refused-requires-4
 refused-requires-4 c κs = search needs
 
 returns-4 : tie.Need-returns-4
-unfolding numberOf
+unfolding numberOf eventsOf
 returns-4 c =
-    let in-range = c .before .before .before in
+    let in-range = c .before .before .before .before in
     refuses (c .refused4 .ensures)
     (notice-falls _ _ (past-valid (in-range .before .before)) (in-range .before .if2 .left) (le-leb _ latest (in-range .if3 .left))
     (lt-leb _ _ (rw (c .before .before .horizon .ensures) at (c .before .if4 .taken))))
 
-cast-self : tie.Need-cast-self
-cast-self c = search needs
-
-judged-requires : tie.Need-judged-requires
-judged-requires c κs = valid-parts _ (past-valid (c .before .before .before .before)) .events-fit
+accepted-requires : tie.Need-accepted-requires
+accepted-requires c κs = valid-parts _ (past-valid (c .before .before .before .before .before)) .events-fit
 
 returns-5 : tie.Need-returns-5
-unfolding entered
+unfolding entered eventsOf
 returns-5 c =
-    let in-range = c .before .before .before in
+    let in-range = c .before .before .before .before in
     let r : Run = in-range .before .before .before .before .args .self in
     accepts r
-    (ap (λ (run : Run). record { outcome = Done; run = run }) (c .judged .ensures))
+    (c .accepted .ensures)
     (notice-accepted r _ (past-valid (in-range .before .before)) (in-range .before .if2 .left) (le-leb _ latest (in-range .if3 .left))
     (le-leb _ _ (rw (c .before .before .horizon .ensures) at (c .before .if4 .left))))
 
@@ -93,10 +89,9 @@ notice-spec =
     cast-if3
     refused-requires-3
     returns-3
-    cast-if4
+    cast-clock
     horizon-requires
     refused-requires-4
     returns-4
-    cast-self
-    judged-requires
+    accepted-requires
     returns-5)

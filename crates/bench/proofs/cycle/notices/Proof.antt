@@ -1,20 +1,20 @@
 -- A loop over the turns.
 use borrow.Author.Needs.{needs}
 use Prim.Native.Nat.{_-_, _≤_}
-use Rattle.bench.proofs.cycle.steps.Statement.{statement}
-use Rattle.bench.proofs.cycle.steps.Tie as tie
+use Rattle.bench.proofs.cycle.notices.Statement.{statement}
+use Rattle.bench.proofs.cycle.notices.Tie as tie
 
 abbrev Inv-loop : tie.InvT-loop
-Inv-loop letter run event turns sum₀ i₀ sum i = i ≤ turns
+Inv-loop run time turns sum₀ i₀ sum i = i ≤ turns
 
 abbrev μ-loop : tie.MeasureT-loop
-μ-loop letter run event turns sum₀ i₀ sum i = turns - i
+μ-loop run time turns sum₀ i₀ sum i = turns - i
 
 loop-holds : tie.Need-loop-holds Inv-loop μ-loop
 loop-holds c = search needs
 
-step-requires : tie.Need-step-requires Inv-loop μ-loop
-step-requires c κs = search needs
+notice-requires : tie.Need-notice-requires Inv-loop μ-loop
+notice-requires c κs = search needs
 
 of-outcome-requires : tie.Need-of-outcome-requires Inv-loop μ-loop
 of-outcome-requires c κs = search needs
@@ -40,14 +40,14 @@ loop-again c = search needs
 returns : tie.Need-returns Inv-loop μ-loop
 returns c = search needs
 
-pub steps-spec : {M : Type 1} → statement M
-steps-spec =
+pub notices-spec : {M : Type 1} → statement M
+notices-spec =
     tie.close
     (tie.spec
     Inv-loop
     μ-loop
     loop-holds
-    step-requires
+    notice-requires
     of-outcome-requires
     joined-requires
     of-run-requires
