@@ -1,11 +1,9 @@
 // A running cycle: its record, and the calls start, take, notice, standing, totals and close.
 ghost use mathlib.Core.Path.{_≡_};
 ghost use Prim.Native.Nat.{_≤_};
-ghost use lib.ListN.{take};
 ghost use Rattle.declare.specs.Limits.{mostEvents};
-ghost use Rattle.declare.specs.Continuations.{horizon};
 ghost use Rattle.run.specs.declared.Outcome.the-variants.{Done, Refused};
-ghost use Rattle.run.specs.Records.{withEvents, withClock};
+ghost use Rattle.run.specs.Records.{horizonOf, withEvents, withClock};
 ghost use Rattle.run.specs.Calls.{judgedRun};
 use declare::EVENTS;
 use declare::Event;
@@ -65,21 +63,6 @@ pub enum TotalsAnswer {
     Refused(Refusal),
 }
 
-// The earliest time that an event may have after the first `count` of these and a notice.
-fn horizon(count: usize, events: [Event; EVENTS], clock: u32) -> u32
-    requires { ⌜ count ≤ mostEvents ⌝ }
-    ensures { λ r. ⌜ r ≡ horizon (record { events = take count events; clock = clock }) ⌝ }
-{
-    if count == 0 {
-        return clock;
-    }
-    let last = events[count - 1];
-    if last.time <= clock {
-        return clock;
-    }
-    last.time
-}
-
 impl Run {
     // A call refused: the run stays as it was.
     fn refused(self, cause: Refusal) -> Step
@@ -91,20 +74,35 @@ impl Run {
         }
     }
 
+    // The earliest time that a further event may have.
+    fn horizon(self) -> u32
+        requires { ⌜ self .count ≤ mostEvents ⌝ }
+        ensures { λ r. ⌜ r ≡ horizonOf self ⌝ }
+    {
+        let n = self.count;
+        if n == 0 {
+            return self.clock;
+        }
+        let last = self.events[n - 1];
+        if last.time <= self.clock {
+            return self.clock;
+        }
+        last.time
+    }
+
     // A call accepted: the run with these events and this kept time, its standings judged anew, the
-    // decided ones kept, and counted.
-    fn accepted(self, count: usize, events: [Event; EVENTS], clock: u32) -> Step
-        requires { ⌜ count ≤ mostEvents ⌝ }
+    // decided ones kept, and counted. No further event comes before `horizon`.
+    fn accepted(self, count: usize, events: [Event; EVENTS], clock: u32, horizon: u32) -> Step
+        requires { ⌜ horizon ≡ horizonOf (withClock (withEvents self count events) clock) ⌝ }
         ensures { λ r. ⌜ r ≡ record { outcome = Done; run = judgedRun (withClock (withEvents self count events) clock) } ⌝ }
     {
-        let h = horizon(count, events, clock);
         let table = self.table;
         let cells = self.cells;
         let overall = self.overall;
         let totals = self.totals;
-        let zero = judge_overall(true, table, events, count, h, overall);
+        let zero = judge_overall(true, table, events, count, horizon, overall);
         let begun = zero_totals(table, zero, totals);
-        let next = judge_cells(true, table, events, count, h, cells, begun);
+        let next = judge_cells(true, table, events, count, horizon, cells, begun);
         let judged = next.cells;
         let counted = next.totals;
         Step {

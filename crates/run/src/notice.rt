@@ -5,7 +5,6 @@ ghost use Rattle.run.specs.Answers.{stepAnswer};
 ghost use Rattle.run.specs.Calls.{noticeOf};
 use crate::Run;
 use crate::Step;
-use crate::horizon;
 use crate::record::valid_run;
 use declare::LATEST;
 use declare::Refusal;
@@ -26,11 +25,10 @@ impl Run {
             return self.refused(Refusal::OutOfRange);
         }
         let clock = time as u32;
-        let n = self.count;
-        let events = self.events;
-        if clock < horizon(n, events, self.clock) {
+        if clock < self.horizon() {
             return self.refused(Refusal::TimeFalls);
         }
-        self.accepted(n, events, clock)
+        let events = self.events;
+        self.accepted(self.count, events, clock, clock)
     }
 }

@@ -9,7 +9,9 @@ use differential::probe::Probe;
 use differential::script::{table_of, Case, Session};
 use evaluator::notices::Call::{self, Notice, Take};
 use evaluator::Standing::{Fulfilled, Open, Violated};
-use evaluator::{grown, place, Event, Record, Refusal, Rule, Standing};
+use evaluator::stored::stored_texts;
+use evaluator::{grown, place, read_cycle, read_rules, Event, Record, Refusal, Rule, Standing};
+use std::path::Path;
 
 const LAST: u32 = u32::MAX;
 
@@ -347,4 +349,64 @@ fn every_short_list() {
     assert_eq!(counts.calls('k') + counts.calls('e'), 3 * counts.cases);
     assert_eq!(counts.calls('k') * 4, 3 * counts.cases);
     assert_eq!([counts.numbers('k'), counts.numbers('e')], [[0], [0]]);
+}
+
+/// A line of the table in examples/swing-tower/stopped.md: call, time, event, answer and
+/// standing.
+fn stopped_lines() -> Vec<[String; 5]> {
+    let path = Path::new(env!("CARGO_MANIFEST_DIR")).join("../../examples/swing-tower/stopped.md");
+    let text = std::fs::read_to_string(path).expect("the example");
+    let rows = text.lines().filter(|line| line.starts_with("| "));
+    let cells = rows.map(|line| line.trim_matches('|').split('|').map(|c| c.trim().to_string()));
+    let lines = cells.map(|c| c.collect::<Vec<_>>().try_into().expect("five cells"));
+    lines.skip(1).collect()
+}
+
+fn swing_tower() -> (Vec<Rule>, Vec<Event>) {
+    let stored = stored_texts();
+    let tower = stored.iter().find(|s| s.folder.ends_with("swing-tower"));
+    let tower = tower.expect("the example");
+    let rules = read_rules(tower.rules.as_ref().expect("rules")).expect("valid rules");
+    let cycle = read_cycle(tower.cycle.as_ref().expect("a cycle")).expect("a valid cycle");
+    (rules, cycle)
+}
+
+/// The event of a line: that of the cycle, or the report of all locks at another time.
+fn stopped_event(cycle: &[Event], time: u32, words: &str) -> Event {
+    let known = cycle.iter().find(|event| event.time == time);
+    let mut report = *cycle.iter().find(|event| event.time == 1600).expect("a report");
+    report.time = time;
+    match words {
+        "lock report, 32 of 32" => report,
+        _ => *known.expect("an event of the cycle"),
+    }
+}
+
+/// The example swing-tower, stopped: each answer and standing of its table, by the
+/// evaluator and by the library.
+#[test]
+fn the_swing_tower_while_it_stands_still() {
+    let (rules, cycle) = swing_tower();
+    let mut session = Session::started(LISTED, 0, &table_of(&rules));
+    let lines = stopped_lines();
+    assert_eq!(lines.len(), 12);
+    for [call, time, event, answer, standing] in &lines {
+        let time = time.parse().unwrap_or(0);
+        let found = match call.as_str() {
+            "take" => session.take(stopped_event(&cycle, time, event)),
+            "notice" => session.notice(time.into()),
+            _ => session.close(),
+        };
+        let number = found.map_or_else(|refusal| refusal.number.to_string(), |_| "done".into());
+        assert_eq!(number, *answer, "{call} {time}");
+        let shown = match session.standing(5, 2) {
+            Ok(Open) => "open",
+            Ok(Violated(0)) => "violated, target 0",
+            _ => "not taken yet",
+        };
+        assert_eq!(shown, standing, "{call} {time}");
+    }
+    session.compare_run();
+    let counts = agree(&Probe::find(), [session.case]);
+    assert_eq!([counts.calls('e'), counts.calls('k')], [6, 5]);
 }

@@ -14,9 +14,6 @@ use Rattle.run.proofs.Stored.{counted-by}
 use Rattle.run.proofs.Run.accepted.Statement.{statement}
 use Rattle.run.proofs.Run.accepted.Tie as tie
 
-horizon-requires : tie.Need-horizon-requires
-horizon-requires c κs = search needs
-
 judge-overall-requires : tie.Need-judge-overall-requires
 judge-overall-requires c κs = search needs
 
@@ -32,20 +29,19 @@ returns c =
     let cells = c .before .before .judge-cells in
     let begun = c .before .before .before .zero-totals in
     let overall = c .before .before .before .before .judge-overall in
-    let horizon = c .before .before .before .before .before .before .before .before .before .horizon in
-    let a = c .before .before .before .before .before .before .before .before .before .before .args in
+    let start = c .before .before .before .before .before .before .before .before .before in
+    let a = start .args in
     let r : Run = withClock (withEvents (a .self) (a .count) (a .events)) (a .clock) in
     let next : Run = withStandings r (cells .result .cells) (overall .result) in
     ap (λ (run : Run). record { outcome = Done; run = run })
     (ap (withTotals next) (counted-by next (begun .ensures) (cells .ensures .1))
-    ∙ ap₂ (λ (x y : List Cell). counted (withStandings r x y)) (cells .ensures .0 ∙ ap (λ (h : ℕ). judgedCells true (r .table) (r .events) (r .count) h (r .cells)) (horizon .ensures))
-    (overall .ensures ∙ ap (λ (h : ℕ). judgedOverall true (r .table) (r .events) (r .count) h (r .overall)) (horizon .ensures)))
+    ∙ ap₂ (λ (x y : List Cell). counted (withStandings r x y)) (cells .ensures .0 ∙ ap (λ (h : ℕ). judgedCells true (r .table) (r .events) (r .count) h (r .cells)) (start .pre))
+    (overall .ensures ∙ ap (λ (h : ℕ). judgedOverall true (r .table) (r .events) (r .count) h (r .overall)) (start .pre)))
 
 pub accepted-spec : {M : Type 1} → statement M
 accepted-spec =
     tie.close
     (tie.spec
-    horizon-requires
     judge-overall-requires
     zero-totals-requires
     judge-cells-requires
