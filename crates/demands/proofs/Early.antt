@@ -14,9 +14,7 @@ use Rattle.declare.specs.declared.Event.{Event}
 use Rattle.declare.specs.declared.Rule.{Rule}
 use Rattle.declare.specs.declared.Standing.{Standing}
 use Rattle.declare.specs.declared.Standing.the-variants.{Idle, Open}
-use Rattle.declare.specs.Lists.{all}
 use Rattle.declare.specs.Limits.{mostRules, mostEvents}
-use Rattle.declare.specs.Events.{wellFormed, nonFalling, lastTime}
 use Rattle.declare.specs.Overall.{isOverall}
 use Rattle.declare.specs.Rules.{validRule, ruleAt, isOverallRule}
 use Rattle.declare.specs.Suits.{activationAt}

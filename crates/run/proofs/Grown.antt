@@ -11,8 +11,8 @@ use Prim.Native.Nat.{ℕ, zero, suc, _+_, _-_, _≤_, _<_}
 use native.Mathlib.Omega.{arith}
 use borrow.Author.Tests.{le-leb, lt-leb, ltb-true, leb-true, leb-false}
 use lib.Dec.{leb}
-use lib.ListN.{length, getD, set, take, replicate, length-set, length-append, length-replicate, getD-replicate}
-use lib.Seq.{take-append-seam, set-append-seam}
+use lib.ListN.{length, getD, set, replicate, length-append, length-replicate, getD-replicate}
+use lib.Seq.{set-append-seam}
 use Rattle.declare.specs.declared.Event.{Event}
 use Rattle.declare.specs.declared.Rule.{Rule}
 use Rattle.declare.specs.declared.Table.{Table}
@@ -29,7 +29,7 @@ use Rattle.declare.specs.Continuations.{Course, horizon}
 use Rattle.declare.specs.Reachability.{standing}
 use Rattle.declare.specs.Standings.{isIdle}
 use Rattle.declare.specs.Answers.{accepted, _>>_, isAccepted, afterCall}
-use Rattle.declare.specs.Steps.{carried, closed, Cycle, Call, takes, notices, admits, isAdmitted, courseWith, courseAfter, course, taken}
+use Rattle.declare.specs.Steps.{carried, closed, Cycle, Call, takes, notices, admits, isAdmitted, courseWith, courseAfter, course}
 use Rattle.declare.proofs.Booleans.{both₃}
 use Rattle.declare.proofs.Zero.{activation-zero, activation-event}
 use Rattle.declare.proofs.Answers.{passed, accepted-then, after-then}

@@ -1,4 +1,4 @@
--- The horizon of a run, as its slots give it; and its events with one more.
+-- The horizon, as the slots of the events give it; and the events of a run with one more.
 use mathlib.Core.Path.{_≡_, refl, ap, _∙_}
 use mathlib.Core.List.{List, [], _∷_, _++_}
 use Prim.Native.Nat.{ℕ, suc, _-_, max, _≤_, _<_}
@@ -15,24 +15,25 @@ use Rattle.run.specs.declared.Run.{Run}
 use Rattle.run.specs.Records.{eventsOf, horizonOf}
 use Rattle.run.specs.Calls.{entered}
 
-module _ (r : Run) where
-  pub horizon-none : r .count ≡ 0 → horizonOf r ≡ r .clock
-  unfolding horizon eventsOf lastTime lastFrom
-  horizon-none n = rw n (omega arith)
+module _ (n : ℕ) (events : List Event) (clock : ℕ) where
+  pub horizon-none : n ≡ 0 → horizon (record { events = take n events; clock = clock }) ≡ clock
+  unfolding horizon lastTime lastFrom
+  horizon-none e = rw e (omega arith)
 
-  pub horizon-last : 0 < r .count → r .count ≤ length (r .events) → horizonOf r ≡ max ((getD (r .events) (r .count - 1) noEvent) .time) (r .clock)
-  unfolding horizon eventsOf
+  pub horizon-last : 0 < n → n ≤ length events → horizon (record { events = take n events; clock = clock }) ≡ max ((getD events (n - 1) noEvent) .time) clock
+  unfolding horizon
   horizon-last a b =
-      let n : r .count ≡ suc (r .count - 1) = omega arith in
-      ap (λ (t : ℕ). max t (r .clock))
-      (ap (λ (k : ℕ). lastTime (take k (r .events))) n
-      ∙ ap lastTime (take-suc (r .events) (r .count - 1) noEvent (omega arith))
-      ∙ last-more (take (r .count - 1) (r .events)) (getD (r .events) (r .count - 1) noEvent))
+      let m : n ≡ suc (n - 1) = omega arith in
+      ap (λ (t : ℕ). max t clock)
+      (ap (λ (k : ℕ). lastTime (take k events)) m
+      ∙ ap lastTime (take-suc events (n - 1) noEvent (omega arith))
+      ∙ last-more (take (n - 1) events) (getD events (n - 1) noEvent))
 
-  pub events-entered : (e : Event) → r .count < length (r .events) → eventsOf (entered r (takes e)) ≡ eventsOf r ++ e ∷ []
-  unfolding eventsOf entered
-  events-entered e room = rw add-one (take-suc-set (r .events) (r .count) e room)
+pub events-entered : (r : Run) (e : Event) → r .count < length (r .events) → eventsOf (entered r (takes e)) ≡ eventsOf r ++ e ∷ []
+unfolding eventsOf entered
+events-entered r e room = rw add-one (take-suc-set (r .events) (r .count) e room)
 
+module _ (r : Run) where
   entered-clock : (e : Event) → entered r (takes e) .clock ≡ r .clock
   unfolding entered
   entered-clock e = refl
@@ -41,7 +42,7 @@ module _ (r : Run) where
   pub horizon-taken : (e : Event) → r .count < length (r .events) → horizonOf r ≤ e .time → horizonOf (entered r (takes e)) ≡ e .time
   unfolding horizon
   horizon-taken e room l =
-      let last : lastTime (eventsOf (entered r (takes e))) ≡ e .time = ap lastTime (events-entered e room) ∙ last-more (eventsOf r) e in
+      let last : lastTime (eventsOf (entered r (takes e))) ≡ e .time = ap lastTime (events-entered r e room) ∙ last-more (eventsOf r) e in
       let kept : entered r (takes e) .clock ≡ r .clock = entered-clock e in
       omega (arith, last, kept, l)
 

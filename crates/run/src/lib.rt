@@ -1,7 +1,9 @@
 // A running cycle: its record, and the calls start, take, notice, standing, totals and close.
 ghost use mathlib.Core.Path.{_≡_};
 ghost use Prim.Native.Nat.{_≤_};
+ghost use lib.ListN.{take};
 ghost use Rattle.declare.specs.Limits.{mostEvents};
+ghost use Rattle.declare.specs.Continuations.{horizon};
 ghost use Rattle.run.specs.declared.Outcome.the-variants.{Done, Refused};
 ghost use Rattle.run.specs.Records.{horizonOf, withEvents, withClock};
 ghost use Rattle.run.specs.Calls.{judgedRun};
@@ -63,6 +65,21 @@ pub enum TotalsAnswer {
     Refused(Refusal),
 }
 
+// The earliest time that an event may have after the first `count` of these and a notice.
+fn horizon(count: usize, events: [Event; EVENTS], clock: u32) -> u32
+    requires { ⌜ count ≤ mostEvents ⌝ }
+    ensures { λ r. ⌜ r ≡ horizon (record { events = take count events; clock = clock }) ⌝ }
+{
+    if count == 0 {
+        return clock;
+    }
+    let last = events[count - 1];
+    if last.time <= clock {
+        return clock;
+    }
+    last.time
+}
+
 impl Run {
     // A call refused: the run stays as it was.
     fn refused(self, cause: Refusal) -> Step
@@ -72,22 +89,6 @@ impl Run {
             outcome: Outcome::Refused(cause),
             run: self,
         }
-    }
-
-    // The earliest time that a further event may have.
-    fn horizon(self) -> u32
-        requires { ⌜ self .count ≤ mostEvents ⌝ }
-        ensures { λ r. ⌜ r ≡ horizonOf self ⌝ }
-    {
-        let n = self.count;
-        if n == 0 {
-            return self.clock;
-        }
-        let last = self.events[n - 1];
-        if last.time <= self.clock {
-            return self.clock;
-        }
-        last.time
     }
 
     // A call accepted: the run with these events and this kept time, its standings judged anew, the

@@ -5,6 +5,7 @@ ghost use Rattle.run.specs.Answers.{stepAnswer};
 ghost use Rattle.run.specs.Calls.{noticeOf};
 use crate::Run;
 use crate::Step;
+use crate::horizon;
 use crate::record::valid_run;
 use declare::LATEST;
 use declare::Refusal;
@@ -25,10 +26,11 @@ impl Run {
             return self.refused(Refusal::OutOfRange);
         }
         let clock = time as u32;
-        if clock < self.horizon() {
+        let n = self.count;
+        let events = self.events;
+        if clock < horizon(n, events, self.clock) {
             return self.refused(Refusal::TimeFalls);
         }
-        let events = self.events;
-        self.accepted(self.count, events, clock, clock)
+        self.accepted(n, events, clock, clock)
     }
 }

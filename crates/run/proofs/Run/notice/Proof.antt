@@ -7,7 +7,7 @@ use borrow.Author.Tests.{not-true, not-false, lt-leb, le-leb}
 use Rattle.declare.specs.Events.{latest}
 use Rattle.declare.specs.Refusals.{numberOf}
 use Rattle.run.specs.declared.Run.{Run}
-use Rattle.run.specs.Records.{horizonOf, validRun}
+use Rattle.run.specs.Records.{eventsOf, horizonOf, validRun}
 use Rattle.run.specs.Calls.{entered}
 use Rattle.run.proofs.Bounds.{valid-parts}
 use Rattle.run.proofs.Horizons.{horizon-noticed}
@@ -51,32 +51,33 @@ cast-clock : tie.Need-cast-clock
 cast-clock c = search needs
 
 horizon-requires : tie.Need-horizon-requires
-horizon-requires c κs = valid-parts _ (past-valid (c .before .before)) .events-fit
+horizon-requires c κs = valid-parts _ (past-valid (c .before .before .before)) .events-fit
 
 refused-requires-4 : tie.Need-refused-requires-4
 refused-requires-4 c κs = search needs
 
 returns-4 : tie.Need-returns-4
-unfolding numberOf
+unfolding numberOf eventsOf
 returns-4 c =
-    let in-range = c .before .before .before in
+    let in-range = c .before .before .before .before in
     refuses (c .refused4 .ensures)
     (notice-falls _ _ (past-valid (in-range .before .before)) (in-range .before .if2 .left) (le-leb _ latest (in-range .if3 .left))
     (lt-leb _ _ (rw (c .before .before .horizon .ensures) at (c .before .if4 .taken))))
 
 -- not below the horizon
-past-time : (c : tie.Else4) → horizonOf (c .before .before .before .before .before .before .args .self) ≤ c .before .before .before .before .before .before .args .time
+past-time : (c : tie.Else4) → horizonOf (c .before .before .before .before .before .before .before .args .self) ≤ c .before .before .before .before .before .before .before .args .time
+unfolding eventsOf
 past-time c = rw (c .before .horizon .ensures) at (c .if4 .left)
 
 accepted-requires : tie.Need-accepted-requires
 unfolding entered
-accepted-requires c κs = sym (horizon-noticed _ _ (past-time (c .before)))
+accepted-requires c κs = sym (horizon-noticed _ _ (past-time c))
 
 returns-5 : tie.Need-returns-5
 unfolding entered
 returns-5 c =
-    let follows = c .before .before in
-    let in-range = follows .before .before in
+    let follows = c .before in
+    let in-range = follows .before .before .before in
     let r : Run = in-range .before .before .before .before .args .self in
     accepts r (c .accepted .ensures)
     (notice-accepted r _ (past-valid (in-range .before .before)) (in-range .before .if2 .left) (le-leb _ latest (in-range .if3 .left)) (le-leb _ _ (past-time follows)))
