@@ -8,8 +8,8 @@ use differential::compare::agree;
 use differential::probe::Probe;
 use differential::script::{table_of, Case, Session};
 use evaluator::notices::Call::{self, Notice, Take};
-use evaluator::Standing::{Fulfilled, Open, Violated};
 use evaluator::stored::stored_texts;
+use evaluator::Standing::{Fulfilled, Open, Violated};
 use evaluator::{grown, place, read_cycle, read_rules, Event, Record, Refusal, Rule, Standing};
 use std::path::Path;
 
@@ -357,7 +357,11 @@ fn stopped_lines() -> Vec<[String; 5]> {
     let path = Path::new(env!("CARGO_MANIFEST_DIR")).join("../../examples/swing-tower/stopped.md");
     let text = std::fs::read_to_string(path).expect("the example");
     let rows = text.lines().filter(|line| line.starts_with("| "));
-    let cells = rows.map(|line| line.trim_matches('|').split('|').map(|c| c.trim().to_string()));
+    let cells = rows.map(|line| {
+        line.trim_matches('|')
+            .split('|')
+            .map(|c| c.trim().to_string())
+    });
     let lines = cells.map(|c| c.collect::<Vec<_>>().try_into().expect("five cells"));
     lines.skip(1).collect()
 }
@@ -374,7 +378,10 @@ fn swing_tower() -> (Vec<Rule>, Vec<Event>) {
 /// The event of a line: that of the cycle, or the report of all locks at another time.
 fn stopped_event(cycle: &[Event], time: u32, words: &str) -> Event {
     let known = cycle.iter().find(|event| event.time == time);
-    let mut report = *cycle.iter().find(|event| event.time == 1600).expect("a report");
+    let mut report = *cycle
+        .iter()
+        .find(|event| event.time == 1600)
+        .expect("a report");
     report.time = time;
     match words {
         "lock report, 32 of 32" => report,
