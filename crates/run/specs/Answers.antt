@@ -12,7 +12,7 @@ use Rattle.run.specs.declared.StandingAnswer.the-variants.{Is, Refused a
 use Rattle.run.specs.declared.TotalsAnswer.{TotalsAnswer}
 use Rattle.run.specs.declared.TotalsAnswer.the-variants.{Are, Refused as NoTotals}
 
--- of start, take and close: the run that they are accepted with, or the refusal
+-- of start, take, notice and close: the run that they are accepted with, or the refusal
 unfoldable pub runAnswer : Run → Outcome → Answer Run
 runAnswer run Done = accepted run
 runAnswer run (NotDone cause) = refused (numberOf cause)

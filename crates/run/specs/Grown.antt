@@ -36,7 +36,7 @@ unfoldable pub afterCalls : Run → List Call → Run
 afterCalls r [] = r
 afterCalls r (call ∷ calls) = afterCalls (afterCall r (callOf r call)) calls
 
--- "the first take gets the run that start gives for the table"
+-- "the first" call "gets the run that start gives for the table"
 unfoldable pub grown : Table → List Call → Run
 grown t calls = afterCalls (started t) calls
 
