@@ -2,11 +2,11 @@
 use mathlib.Core.Path.{refl}
 use Rattle.declare.specs.Refusals.{number_of}
 use Rattle.declare.specs.Answers.{◌>>◌, require}
-use Rattle.buffer.specs.Puts.{next, placeAfter, stored}
-use Rattle.buffer.specs.Writes.{writeOf, bufferAfter, writeAnswer}
+use Rattle.buffer.specs.Puts.{next, place_after, stored}
+use Rattle.buffer.specs.Writes.{write_of, buffer_after, write_answer}
 use Rattle.buffer.specs.Cases.{answers, left, numbered, buffers, places, Checked}
 
 pub checked : Checked
-unfolding answers left numbered buffers places writeOf bufferAfter writeAnswer next placeAfter stored number_of ◌>>◌ require
+unfolding answers left numbered buffers places write_of buffer_after write_answer next place_after stored number_of ◌>>◌ require
 checked =
-    record { of-answers = refl; of_left = refl; of-numbered = refl; of-buffers = refl; of_places = refl }
+    record { of_answers = refl; of_left = refl; of_numbered = refl; of_buffers = refl; of_places = refl }

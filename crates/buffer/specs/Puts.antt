@@ -7,9 +7,9 @@ unfoldable pub next : ℕ → ℕ → ℕ
 next room at = cond (ltb at room) (at + 1) at
 
 -- the place after the text
-unfoldable pub placeAfter : ℕ → ℕ → List ℕ → ℕ
-placeAfter room at [] = at
-placeAfter room at (b ∷ text) = placeAfter room (next room at) text
+unfoldable pub place_after : ℕ → ℕ → List ℕ → ℕ
+place_after room at [] = at
+place_after room at (b ∷ text) = place_after room (next room at) text
 
 -- the buffer after the text; `set` past the end changes nothing
 unfoldable pub stored : List ℕ → ℕ → List ℕ → List ℕ
@@ -19,4 +19,4 @@ stored buffer at (b ∷ text) = stored (set buffer at b) (next (length buffer) a
 -- putting the text at a place of the buffer `before` leaves the buffer `after`, and gives `place`
 pub record Puts (text before : List ℕ) (at : ℕ) (after : List ℕ) (place : ℕ) : Type 0 where
   pub stores : after ≡ stored before at text
-  pub ends : place ≡ placeAfter (length before) at text
+  pub ends : place ≡ place_after (length before) at text

@@ -9,7 +9,7 @@ pub mod put; // put.rt: bytes
 pub mod numbers; // numbers.rt: numbers, and the fields that hold them
 
 // What a call that writes a text answers: the text's length, or why nothing is written.
-#[derive(Drop)]
+#[derive(Clone, Copy)]
 pub enum WriteAnswer {
     Written(usize),
     Refused(Refusal),

@@ -1,6 +1,6 @@
 // Numbers put into a buffer, in base ten.
 ghost use Rattle.std.specs.Prelude.{[], ◌∷◌, ◌++◌};
-ghost use Rattle.number.specs.Written.{digitsOf, integerText};
+ghost use Rattle.number.specs.Written.{digits_of, integer_text};
 ghost use Rattle.buffer.specs.Puts.{Puts};
 
 use crate::put::{put_byte, put_bytes};
@@ -8,7 +8,7 @@ use declare::numbers::magnitude;
 
 // The digits, the highest first; they are found from the last on.
 pub fn put_number(out: &mut [u8], at: usize, n: u32) -> usize
-    ensures { Puts (digitsOf n) out.old at out.new result }
+    ensures { Puts (digits_of n) out.old at out.new result }
 {
     if n < 10 {
         return put_byte(out, at, (48 + n) as u8);
@@ -27,7 +27,7 @@ pub fn put_number(out: &mut [u8], at: usize, n: u32) -> usize
 
 // A `-` before the digits of a negative number.
 pub fn put_integer(out: &mut [u8], at: usize, z: i32) -> usize
-    ensures { Puts (integerText z) out.old at out.new result }
+    ensures { Puts (integer_text z) out.old at out.new result }
 {
     let digits = magnitude(z);
     if z < 0 {
@@ -39,7 +39,7 @@ pub fn put_integer(out: &mut [u8], at: usize, z: i32) -> usize
 
 // A number and the byte that ends its field.
 pub fn put_number_field(out: &mut [u8], at: usize, n: u32, end: u8) -> usize
-    ensures { Puts (digitsOf n ++ (end ∷ [])) out.old at out.new result }
+    ensures { Puts (digits_of n ++ (end ∷ [])) out.old at out.new result }
 {
     let at = put_number(out, at, n);
     put_byte(out, at, end)

@@ -11,7 +11,7 @@ use lib.ListN.{take}
 use Rattle.declare.specs.declared.Test.{Test}
 use Rattle.declare.specs.Lists.{all, any}
 use Rattle.condition.specs.declared.bound.Tests.{Tests}
-use Rattle.condition.specs.Bound.{testList}
+use Rattle.condition.specs.Bound.{test_list}
 
 -- what a function's answer says of the test that it stands for
 pub passed : {r p : Bool} → r ≡ p → not r ≡ false → p ≡ true
@@ -20,39 +20,39 @@ passed {r} e n = sym e ∙ not-false r n
 pub failed : {r p : Bool} → r ≡ p → not r ≡ true → p ≡ false
 failed {r} e n = sym e ∙ not-true r n
 
-pub no-tests : (ts : Tests) → ts.count < 1 → testList ts ≡ []
-unfolding testList
-no-tests ts n = let e : ts.count ≡ 0 = omega arith in rw e
+pub no_tests : (ts : Tests) → ts.count < 1 → test_list ts ≡ []
+unfolding test_list
+no_tests ts n = let e : ts.count ≡ 0 = omega arith in rw e
 
 -- x is what all n tests say: the k-th says b, if there is one, and those after it say y
 pub record Left (n k : ℕ) (x b y : Bool) : Type 0 where
   pub says : x ≡ cond (ltb n k) true (b && y)
 
 module _ (p : Test → Bool) (ts : Tests) where
-  abbrev fourth-on : Bool
-  fourth-on = cond (ltb ts.count 4) true (p ts.fourth && true)
+  abbrev fourth_on : Bool
+  fourth_on = cond (ltb ts.count 4) true (p ts.fourth && true)
 
-  abbrev third-on : Bool
-  third-on = cond (ltb ts.count 3) true (p ts.third && fourth-on)
+  abbrev third_on : Bool
+  third_on = cond (ltb ts.count 3) true (p ts.third && fourth_on)
 
-  abbrev second-on : Bool
-  second-on = cond (ltb ts.count 2) true (p ts.second && third-on)
+  abbrev second_on : Bool
+  second_on = cond (ltb ts.count 2) true (p ts.second && third_on)
 
   -- the first, the second, .. and those after it are left
   abbrev pub First : Type 0
-  First = Left ts.count 1 (all p (testList ts)) (p ts.first) second-on
+  First = Left ts.count 1 (all p (test_list ts)) (p ts.first) second_on
 
   abbrev pub Second : Type 0
-  Second = Left ts.count 2 (all p (testList ts)) (p ts.second) third-on
+  Second = Left ts.count 2 (all p (test_list ts)) (p ts.second) third_on
 
   abbrev pub Third : Type 0
-  Third = Left ts.count 3 (all p (testList ts)) (p ts.third) fourth-on
+  Third = Left ts.count 3 (all p (test_list ts)) (p ts.third) fourth_on
 
   abbrev pub Fourth : Type 0
-  Fourth = Left ts.count 4 (all p (testList ts)) (p ts.fourth) true
+  Fourth = Left ts.count 4 (all p (test_list ts)) (p ts.fourth) true
 
   pub untried : First
-  unfolding testList all
+  unfolding test_list all
   untried = record { says = go ts.count }
     where
       go : (n : ℕ) → all p (take n (ts.first ∷ ts.second ∷ ts.third ∷ ts.fourth ∷ [])) ≡ cond (ltb n 1) true (p ts.first && cond (ltb n 2) true (p ts.second && cond (ltb n 3) true (p ts.third && cond (ltb n 4) true (p ts.fourth && true))))
@@ -83,11 +83,11 @@ pub last : {n k : ℕ} {x b : Bool} → Left n k x b true → k ≤ n → b ≡ 
 last {b = b} left l = sym (next left l ∙ and-true b)
 
 -- some passes where not all fail
-pub any-all {ℓ} : {A B : Type ℓ} (p : B → Bool) (f : A → B) (xs : List A) → any p (map f xs) ≡ not (all (λ x. not (p (f x))) xs)
+pub any_all {ℓ} : {A B : Type ℓ} (p : B → Bool) (f : A → B) (xs : List A) → any p (map f xs) ≡ not (all (λ x. not (p (f x))) xs)
 unfolding all any
-any-all p f [] = refl
-any-all p f (x ∷ xs) = rw (any-all p f xs) (de-morgan (p (f x)) (all (λ x. not (p (f x))) xs))
+any_all p f [] = refl
+any_all p f (x ∷ xs) = rw (any_all p f xs) (de_morgan (p (f x)) (all (λ x. not (p (f x))) xs))
   where
-    de-morgan : (a b : Bool) → (a || not b) ≡ not (not a && b)
-    de-morgan true b = refl
-    de-morgan false b = refl
+    de_morgan : (a b : Bool) → (a || not b) ≡ not (not a && b)
+    de_morgan true b = refl
+    de_morgan false b = refl

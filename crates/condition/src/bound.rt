@@ -3,14 +3,14 @@
 ghost use Rattle.std.specs.Prelude.{◌≡◌};
 ghost use Rattle.declare.specs.Lists.{all};
 ghost use Rattle.declare.specs.Comparisons.{passes};
-ghost use Rattle.condition.specs.Bound.{testList, testsFor, boundOf, cycleBound};
+ghost use Rattle.condition.specs.Bound.{test_list, tests_for, bound_of, cycle_bound};
 
 use crate::comparison::{passes, test_of};
 use declare::slots::empty_slot;
 use declare::{Condition, Event, Rule, Test, Window};
 
 // The first `count` of four tests.
-#[derive(Drop)]
+#[derive(Clone, Copy)]
 pub struct Tests {
     pub count: u8,
     pub first: Test,
@@ -20,7 +20,7 @@ pub struct Tests {
 }
 
 // What a rule asks of a target, for an activation at `time`.
-#[derive(Drop)]
+#[derive(Clone, Copy)]
 pub struct Bound {
     pub target: u8,
     pub time: u32,
@@ -30,7 +30,7 @@ pub struct Bound {
 
 // A condition for the activation a; the tests past the count are made too, and never tried.
 pub fn tests_for(a: Event, c: Condition) -> Tests
-    ensures { result ≡ testsFor a c }
+    ensures { result ≡ tests_for a c }
 {
     let first = test_of(a, c.first);
     let second = test_of(a, c.second);
@@ -47,7 +47,7 @@ pub fn tests_for(a: Event, c: Condition) -> Tests
 
 // Whether e passes every test: up to the first that does not hold.
 pub fn all_pass(tests: Tests, e: Event) -> bool
-    ensures { result ≡ all (passes e) (testList tests) }
+    ensures { result ≡ all (passes e) (test_list tests) }
 {
     let count = tests.count;
     if count < 1 {
@@ -77,7 +77,7 @@ pub fn all_pass(tests: Tests, e: Event) -> bool
 // The rule bound to the activation a. This is the hot path, so the tests are made in place: a call
 // that is shared with others would not be inlined.
 pub fn bound_of(rule: Rule, a: Event) -> Bound
-    ensures { result ≡ boundOf rule a }
+    ensures { result ≡ bound_of rule a }
 {
     let window = rule.window;
     let first = test_of(a, rule.correlation.first);
@@ -101,7 +101,7 @@ pub fn bound_of(rule: Rule, a: Event) -> Bound
 
 // A rule about the cycle, for a first event at the time `first`.
 pub fn cycle_bound(rule: Rule, first: u32) -> Bound
-    ensures { result ≡ cycleBound rule first }
+    ensures { result ≡ cycle_bound rule first }
 {
     let window = rule.window;
     let tests = tests_for(empty_slot(), rule.condition);

@@ -1,6 +1,6 @@
 // Readings, comparisons, and comparisons for one activation.
 ghost use Rattle.std.specs.Prelude.{◌≡◌, ◌+ℤ◌};
-ghost use Rattle.declare.specs.Comparisons.{reading_of, operandOf, compares, blankHolds, holds, plus, referenceOf, test_of, passes};
+ghost use Rattle.declare.specs.Comparisons.{reading_of, operand_of, compares, blank_holds, holds, plus, reference_of, test_of, passes};
 
 use declare::{Comparison, Event, Operand, Operator, Reading, Reference, Test};
 
@@ -19,7 +19,7 @@ fn reading_of(e: Event, k: u8) -> Reading
 
 // A reading as one side of a comparison.
 fn operand_of(x: Reading) -> Operand
-    ensures { result ≡ operandOf x }
+    ensures { result ≡ operand_of x }
 {
     match x {
         Reading::Blank => Operand::Missing,
@@ -43,7 +43,7 @@ pub fn compares(operator: Operator, x: i64, y: i64) -> bool
 
 // Whether a blank stands to a number as the operator says: never, ≠ included.
 fn blank_holds(operator: Operator) -> bool
-    ensures { result ≡ blankHolds operator }
+    ensures { result ≡ blank_holds operator }
 {
     match operator {
         Operator::Equal => false,
@@ -80,7 +80,7 @@ fn exact_sum(v: i32, k: i32) -> i64
 
 // A reading plus k; of a blank there is no sum.
 fn plus(x: Reading, k: i32) -> Operand
-    ensures { result ≡ plus (operandOf x) k }
+    ensures { result ≡ plus (operand_of x) k }
 {
     match x {
         Reading::Blank => Operand::Missing,
@@ -90,7 +90,7 @@ fn plus(x: Reading, k: i32) -> Operand
 
 // What a comparison compares with, for the activation a.
 fn reference_of(a: Event, reference: Reference) -> Operand
-    ensures { result ≡ referenceOf a reference }
+    ensures { result ≡ reference_of a reference }
 {
     match reference {
         Reference::Constant(k) => Operand::Exact(k as i64),

@@ -2,8 +2,8 @@
 ghost use Rattle.std.specs.Prelude.{◌≡◌, map};
 ghost use Rattle.declare.specs.Lists.{all, any};
 ghost use Rattle.declare.specs.Events.{in_range};
-ghost use Rattle.declare.specs.Reachability.{asks, meets, after, edge_of, edge, someMeets, satisfiable, hasRoom};
-ghost use Rattle.condition.specs.Bound.{testList, canSuitBound};
+ghost use Rattle.declare.specs.Reachability.{asks, meets, after, edge_of, edge, some_meets, satisfiable, has_room};
+ghost use Rattle.condition.specs.Bound.{test_list, can_suit_bound};
 
 use crate::bound::{Bound, Tests};
 use crate::comparison::holds;
@@ -34,7 +34,7 @@ fn asks(k: u8, v: Operand, t: Test) -> bool
 
 // Whether v passes every test of reading k.
 fn meets_tests(tests: Tests, k: u8, v: Operand) -> bool
-    ensures { result ≡ all (asks k v) (testList tests) }
+    ensures { result ≡ all (asks k v) (test_list tests) }
 {
     let count = tests.count;
     if count < 1 {
@@ -63,7 +63,7 @@ fn meets_tests(tests: Tests, k: u8, v: Operand) -> bool
 
 // Whether v may be a reading, and passes every test of reading k.
 fn meets(tests: Tests, k: u8, v: Operand) -> bool
-    ensures { result ≡ meets (testList tests) k v }
+    ensures { result ≡ meets (test_list tests) k v }
 {
     if !in_range(v) {
         return false;
@@ -106,14 +106,14 @@ fn edge(t: Test) -> Operand
 
 // Whether reading k may stand at the edge of t.
 fn edge_meets(tests: Tests, k: u8, t: Test) -> bool
-    ensures { result ≡ meets (testList tests) k (edge t) }
+    ensures { result ≡ meets (test_list tests) k (edge t) }
 {
     meets(tests, k, edge(t))
 }
 
 // Whether reading k may stand at some edge: up to the first at which it may.
 fn some_edge_meets(tests: Tests, k: u8) -> bool
-    ensures { result ≡ any (meets (testList tests) k) (map edge (testList tests)) }
+    ensures { result ≡ any (meets (test_list tests) k) (map edge (test_list tests)) }
 {
     let count = tests.count;
     if count < 1 {
@@ -143,7 +143,7 @@ fn some_edge_meets(tests: Tests, k: u8) -> bool
 // Whether reading k may have a value that passes its tests: if any, then a blank, the least number
 // or an edge.
 fn some_meets(tests: Tests, k: u8) -> bool
-    ensures { result ≡ someMeets (testList tests) k }
+    ensures { result ≡ some_meets (test_list tests) k }
 {
     if meets(tests, k, Operand::Missing) {
         return true;
@@ -156,7 +156,7 @@ fn some_meets(tests: Tests, k: u8) -> bool
 
 // Whether the readings of some event pass all the tests.
 fn satisfiable(tests: Tests) -> bool
-    ensures { result ≡ satisfiable (testList tests) }
+    ensures { result ≡ satisfiable (test_list tests) }
 {
     let count = tests.count;
     if count < 1 {
@@ -177,7 +177,7 @@ fn satisfiable(tests: Tests) -> bool
 // Whether the window of an activation at `time` has room for an event that is no earlier than the
 // horizon.
 fn has_room(window: Window, time: u32, horizon: u32) -> bool
-    ensures { result ≡ hasRoom window time horizon }
+    ensures { result ≡ has_room window time horizon }
 {
     let from = window.from;
     if LATEST - time < from {
@@ -193,7 +193,7 @@ fn has_room(window: Window, time: u32, horizon: u32) -> bool
 // Whether an event that is no earlier than the horizon may suit the activation that the rule is
 // bound to.
 pub fn can_suit(bound: Bound, horizon: u32) -> bool
-    ensures { result ≡ canSuitBound bound horizon }
+    ensures { result ≡ can_suit_bound bound horizon }
 {
     if !has_room(bound.window, bound.time, horizon) {
         return false;

@@ -1,12 +1,12 @@
 // Time differences.
 ghost use Rattle.std.specs.Prelude.{◌≡◌};
-ghost use Rattle.declare.specs.Suits.{beforeEnd, within, between};
+ghost use Rattle.declare.specs.Suits.{before_end, within, between};
 
 use declare::{End, Window};
 
 // Whether the difference d is below the end.
 fn before_end(d: u32, until: End) -> bool
-    ensures { result ≡ beforeEnd d until }
+    ensures { result ≡ before_end d until }
 {
     match until {
         End::Never => true,

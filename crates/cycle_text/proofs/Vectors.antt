@@ -6,18 +6,18 @@ use Prim.Native.Nat.{ℕ}
 use Prim.Native.String.{String}
 use lib.IntN.{pos, negsuc}
 use lib.ListN.{length, replicate}
-use Rattle.declare.specs.Events.{lastFrom, lastTime, emptySlot}
-use Rattle.number.specs.Number.{digit, digits, none, zeroAlone, positive, negative, naturalForm, integerForm, dash, valueFrom, value_of, integerValue, inNaturalRange, naturalOf, inSignedRange, integerOf}
-use Rattle.number.specs.Written.{digitsIn, digitsOf, integerText}
+use Rattle.declare.specs.Events.{last_from, last_time, empty_slot}
+use Rattle.number.specs.Number.{digit, digits, none, zero_alone, positive, negative, natural_form, integer_form, dash, value_from, value_of, integer_value, in_natural_range, natural_of, in_signed_range, integer_of}
+use Rattle.number.specs.Written.{digits_in, digits_of, integer_text}
 use Rattle.number.proofs.Quoted.{bytes, repeated, Case, ◌gives◌, Checked}
-use Rattle.line.specs.Fields.{onto, split, eachAfter, joined}
+use Rattle.line.specs.Fields.{onto, split, each_after, joined}
 use Rattle.declare.specs.Answers.{◌>>=◌, ◌>>◌, require}
-use Rattle.line.specs.Values.{faultNumber, naturalAnswer, numberField, integerAnswer, readingField, readingText}
-use Rattle.line.specs.Texts.{Records, All, Stop, lineAfter, continued, lines_of, text_of, writtenLine, writtenText}
+use Rattle.line.specs.Values.{fault_number, natural_answer, number_field, integer_answer, reading_field, reading_text}
+use Rattle.line.specs.Texts.{Records, All, Stop, line_after, continued, lines_of, text_of, written_line, written_text}
 use Rattle.cycle_text.specs.Types.{Reading, Blank, Value, Event}
-use Rattle.cycle_text.specs.Cycle.{eventOf, inOrder, eventAfter, cycleTextOf}
-use Rattle.declare.specs.Slots.{padded, eventSlots}
-use Rattle.cycle_text.specs.Written.{eventFields, eventsText}
+use Rattle.cycle_text.specs.Cycle.{event_of, in_order, event_after, cycle_text_of}
+use Rattle.declare.specs.Slots.{padded, event_slots}
+use Rattle.cycle_text.specs.Written.{event_fields, events_text}
 
 abbrev event : ℕ → ℕ → Reading → Event
 event t a r = record { time = t; activity = a; reading1 = r; reading2 = Blank; reading3 = Blank; reading4 = Blank }
@@ -33,33 +33,33 @@ listing =
     ∷ event 1500 2 (Value (pos 7))
     ∷ []
 
-abbrev listingText : List ℕ
-listingText =
+abbrev listing_text : List ℕ
+listing_text =
     bytes "0\t1\t7\t-\t-\t-\n400\t2\t7\t-\t-\t-\n400\t3\t7\t-\t-\t-\n900\t3\t7\t-\t-\t-\n1000\t1\t7\t-\t-\t-\n1500\t2\t7\t-\t-\t-\n"
 
 -- no line that is accepted has more bytes
-abbrev longestText : String
-longestText = "4294967295\t64\t-2147483648\t-2147483648\t-2147483648\t-2147483648\n"
+abbrev longest_text : String
+longest_text = "4294967295\t64\t-2147483648\t-2147483648\t-2147483648\t-2147483648\n"
 
 abbrev longest : Event
 longest =
     let lowest : Reading = Value (negsuc 2147483647) in
     record { time = 4294967295; activity = 64; reading1 = lowest; reading2 = lowest; reading3 = lowest; reading4 = lowest }
 
-abbrev acceptedTexts : List (Case (Records Event))
-acceptedTexts =
+abbrev accepted_texts : List (Case (Records Event))
+accepted_texts =
     "" gives All []
     -- times may repeat
     ∷ "5\t1\t-\t-\t-\t-\n5\t1\t-\t-\t-\t-\n" gives All (event 5 1 Blank ∷ event 5 1 Blank ∷ [])
     ∷ "0\t1\t0\t-\t-\t-\n" gives All (event 0 1 (Value (pos 0)) ∷ [])
     ∷ "4294967295\t64\t2147483647\t-\t-\t-\n" gives All (event 4294967295 64 (Value (pos 2147483647)) ∷ [])
     ∷ "0\t1\t-2147483648\t-\t-\t-\n" gives All (event 0 1 (Value (negsuc 2147483647)) ∷ [])
-    ∷ longestText gives All (longest ∷ [])
+    ∷ longest_text gives All (longest ∷ [])
     ∷ []
 
 -- each cause, with its line
-abbrev refusedTexts : List (Case (Records Event))
-refusedTexts =
+abbrev refused_texts : List (Case (Records Event))
+refused_texts =
     -- an empty line is one empty field; a tab at the end of a line leaves an empty field behind it
     "\n" gives Stop 1 1
     ∷ "0\t1\t-\t-\t-\n" gives Stop 1 1
@@ -113,7 +113,7 @@ ordered =
     ∷ "5\t1\t-\t-\t-\t-\n4\t1\t-\t-\t-\t-" gives Stop 12 2
     ∷ "999999999999999999999999999999999999999999999999999999999999\n" gives Stop 1 1
     ∷ "999999999999999999999999999999999999999999999999999999999999" gives Stop 12 1
-    -- the first line that is refusedTexts
+    -- the first line that is refused_texts
     ∷ "x\n0" gives Stop 1 1
     ∷ "0\tx\t-\t-\t-\t-\n\n" gives Stop 2 1
     ∷ "5\t1\t-\t-\t-\t-\n4\t1\t-\t-\t-\t-\nx\n" gives Stop 7 2
@@ -132,25 +132,25 @@ full =
 
 pub record Vectors : Type 0 where
   -- 256 slots, each that is not filled at time 0, activity 1 and blank readings
-  pub of_slots : eventSlots (event 5 2 Blank ∷ []) ≡ event 5 2 Blank ∷ replicate 255 (event 0 1 Blank)
-  pub of-longest : length (bytes longestText) ≡ 62
-  pub listing-read : cycleTextOf listingText ≡ All listing
-  pub listing-written : eventsText listing ≡ listingText
-  pub of-accepted : Checked cycleTextOf acceptedTexts
-  pub of-refused : Checked cycleTextOf refusedTexts
-  pub of-ordered : Checked cycleTextOf ordered
-  pub of-full : Checked (λ s. cycleTextOf (repeated 256 "5\t1\t-\t-\t-\t-\n" ++ s)) full
+  pub of_slots : event_slots (event 5 2 Blank ∷ []) ≡ event 5 2 Blank ∷ replicate 255 (event 0 1 Blank)
+  pub of_longest : length (bytes longest_text) ≡ 62
+  pub listing_read : cycle_text_of listing_text ≡ All listing
+  pub listing_written : events_text listing ≡ listing_text
+  pub of_accepted : Checked cycle_text_of accepted_texts
+  pub of_refused : Checked cycle_text_of refused_texts
+  pub of_ordered : Checked cycle_text_of ordered
+  pub of_full : Checked (λ s. cycle_text_of (repeated 256 "5\t1\t-\t-\t-\t-\n" ++ s)) full
 
 pub vectors : Vectors
-unfolding lastFrom lastTime digit digits none zeroAlone positive negative naturalForm integerForm dash valueFrom value_of integerValue inNaturalRange naturalOf inSignedRange integerOf digitsIn digitsOf integerText onto split eachAfter joined ◌>>=◌ ◌>>◌ require faultNumber naturalAnswer numberField integerAnswer readingField readingText lineAfter continued lines_of text_of writtenLine writtenText eventOf inOrder eventAfter cycleTextOf padded emptySlot eventFields eventsText
+unfolding last_from last_time digit digits none zero_alone positive negative natural_form integer_form dash value_from value_of integer_value in_natural_range natural_of in_signed_range integer_of digits_in digits_of integer_text onto split each_after joined ◌>>=◌ ◌>>◌ require fault_number natural_answer number_field integer_answer reading_field reading_text line_after continued lines_of text_of written_line written_text event_of in_order event_after cycle_text_of padded empty_slot event_fields events_text
 vectors =
     record {
       of_slots = refl;
-      of-longest = refl;
-      listing-read = refl;
-      listing-written = refl;
-      of-accepted = refl;
-      of-refused = refl;
-      of-ordered = refl;
-      of-full = refl;
+      of_longest = refl;
+      listing_read = refl;
+      listing_written = refl;
+      of_accepted = refl;
+      of_refused = refl;
+      of_ordered = refl;
+      of_full = refl;
     }

@@ -1,9 +1,9 @@
 // Cycle texts: the events of a whole text, or the first refusal with its line.
 ghost use Rattle.std.specs.Prelude.{◌≡◌, ◌+◌};
-ghost use Rattle.line.specs.Fields.{LF, index_of, fieldsFrom};
+ghost use Rattle.line.specs.Fields.{LF, index_of, fields_from};
 ghost use Rattle.line.specs.Texts.{line_of};
-ghost use Rattle.cycle_text.specs.Cycle.{eventOf};
-ghost use Rattle.cycle_text.specs.Reads.{eventRead, eventWith, refusedRead, ReadsCycle};
+ghost use Rattle.cycle_text.specs.Cycle.{event_of};
+ghost use Rattle.cycle_text.specs.Reads.{event_read, event_with, refused_read, ReadsCycle};
 
 use declare::slots::empty_slot;
 use declare::{EVENTS, Event, LAST_ACTIVITY, Refusal};
@@ -13,7 +13,7 @@ use number::NaturalAnswer;
 // The tabs between the six fields of a line.
 const TABS: usize = 5;
 
-#[derive(Drop)]
+#[derive(Clone, Copy)]
 pub enum EventAnswer {
     Found(Event),
     NoEvent(Refusal),
@@ -21,7 +21,7 @@ pub enum EventAnswer {
 
 // The four readings of a line, after its time and activity.
 fn readings(part: &[u8], time: u32, activity: u8) -> EventAnswer
-    ensures { eventRead result ≡ eventWith time activity (fieldsFrom 3 part.now) }
+    ensures { event_read result ≡ event_with time activity (fields_from 3 part.now) }
 {
     let field = reading_field(part, TAB);
     let answer = field.answer;
@@ -61,7 +61,7 @@ fn readings(part: &[u8], time: u32, activity: u8) -> EventAnswer
 
 // A line of six fields, each read from the part of the line that begins at it.
 fn read_event(part: &[u8]) -> EventAnswer
-    ensures { eventRead result ≡ eventOf (fieldsFrom 5 part.now) }
+    ensures { event_read result ≡ event_of (fields_from 5 part.now) }
 {
     let field = line::number_field(part, TAB, 0, u32::MAX);
     let answer = field.answer;
@@ -79,7 +79,7 @@ fn read_event(part: &[u8]) -> EventAnswer
     readings(rest_of(part, field.length), time, activity as u8)
 }
 
-#[derive(Drop)]
+#[derive(Clone, Copy)]
 pub struct CycleLine {
     pub answer: EventAnswer,
     pub next: usize,
@@ -87,7 +87,7 @@ pub struct CycleLine {
 
 // The first line, and where the next one begins.
 pub fn cycle_line(rest: &[u8]) -> CycleLine
-    ensures answer_value { eventRead result.answer ≡ line_of eventOf rest.now }
+    ensures answer_value { event_read result.answer ≡ line_of event_of rest.now }
     ensures next_value { result.next ≡ index_of LF rest.now + 1 }
 {
     let scan = line::scan_line(rest);
@@ -109,7 +109,7 @@ pub fn cycle_line(rest: &[u8]) -> CycleLine
     CycleLine { answer, next }
 }
 
-#[derive(Drop)]
+#[derive(Clone, Copy)]
 pub struct CycleRead {
     pub outcome: Outcome,
     pub count: usize,
@@ -118,7 +118,7 @@ pub struct CycleRead {
 
 // A refused text has no events.
 fn refused(cause: Refusal, line: usize) -> CycleRead
-    ensures { result ≡ refusedRead cause line }
+    ensures { result ≡ refused_read cause line }
 {
     let slot = empty_slot();
     CycleRead {

@@ -26,14 +26,14 @@ plain_fits (negsuc a) f h = absurd (true≢false h)
 pub minus : (z : ℤ) → pos 0 -ℤ z ≡ neg_ℤ z
 minus z = +ℤ_idl (neg_ℤ z)
 
-pub minus-fits : (z : ℤ) → SFits w32 z → lt_z z (pos 0) ≡ true → SFits w64 (neg_ℤ z)
-minus-fits (pos a) f h = absurd (omega (arith, ltb-true a 0 h))
-minus-fits (negsuc a) f h = record { sfits = omega (arith, f.sfits) }
+pub minus_fits : (z : ℤ) → SFits w32 z → lt_z z (pos 0) ≡ true → SFits w64 (neg_ℤ z)
+minus_fits (pos a) f h = absurd (omega (arith, ltb-true a 0 h))
+minus_fits (negsuc a) f h = record { sfits = omega (arith, f.sfits) }
 
-pub magnitude-fits : (z : ℤ) → SFits w32 z → lt_z z (pos 0) ≡ true → T (non_neg (neg_ℤ z)) × Fits w32 (nat_abs (neg_ℤ z))
-magnitude-fits (pos a) f h = absurd (omega (arith, ltb-true a 0 h))
-magnitude-fits (negsuc a) f h = (tt, record { fits = omega (arith, f.sfits) })
+pub magnitude_fits : (z : ℤ) → SFits w32 z → lt_z z (pos 0) ≡ true → T (non_neg (neg_ℤ z)) × Fits w32 (nat_abs (neg_ℤ z))
+magnitude_fits (pos a) f h = absurd (omega (arith, ltb-true a 0 h))
+magnitude_fits (negsuc a) f h = (tt, record { fits = omega (arith, f.sfits) })
 
-pub magnitude-same : (z : ℤ) → lt_z z (pos 0) ≡ true → nat_abs (neg_ℤ z) ≡ nat_abs z
-magnitude-same (pos a) h = absurd (omega (arith, ltb-true a 0 h))
-magnitude-same (negsuc a) h = refl
+pub magnitude_same : (z : ℤ) → lt_z z (pos 0) ≡ true → nat_abs (neg_ℤ z) ≡ nat_abs z
+magnitude_same (pos a) h = absurd (omega (arith, ltb-true a 0 h))
+magnitude_same (negsuc a) h = refl

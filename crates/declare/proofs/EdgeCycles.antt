@@ -1,50 +1,50 @@
 -- The edge cycles, the listing and the other cases, by computation over the definitions.
 use mathlib.Core.Path.{refl}
-use Rattle.declare.specs.Lists.{all, any, noneBetween, firstUpTo, lastUpTo, firstPast, nearest}
-use Rattle.declare.specs.Comparisons.{plus, holds, referenceOf, test_of, passes}
-use Rattle.declare.specs.Conditions.{comparisonsOf, testsOf, met}
-use Rattle.declare.specs.Events.{least, greatest, in_range, isActivity, readingsInRange, wellFormed, nonFallingFrom, nonFalling, lastFrom, lastTime, noEvent, eventAt, firstTime, emptySlot}
-use Rattle.declare.specs.Overall.{isOverall, overallOf}
-use Rattle.declare.specs.Rules.{isTemplate, isReading, validReference, validComparison, validCondition, validEnd, validWindow, validHead, fitsTemplate, validRule, rulesOf, validTable}
-use Rattle.declare.specs.Suits.{occurs, isActivation, activationAt, beforeEnd, within, correlates, suits}
-use Rattle.declare.specs.Templates.{templates, templateOf, inReach}
-use Rattle.declare.specs.Verdicts.{occursAt, fitsAt, eligible, target, decided, seen, formulaOf, decision, verdict}
+use Rattle.declare.specs.Lists.{all, any, none_between, first_up_to, last_up_to, first_past, nearest}
+use Rattle.declare.specs.Comparisons.{plus, holds, reference_of, test_of, passes}
+use Rattle.declare.specs.Conditions.{comparisons_of, tests_of, met}
+use Rattle.declare.specs.Events.{least, greatest, in_range, is_activity, readings_in_range, well_formed, non_falling_from, non_falling, last_from, last_time, no_event, event_at, first_time, empty_slot}
+use Rattle.declare.specs.Overall.{is_overall, overall_of}
+use Rattle.declare.specs.Rules.{is_template, is_reading, valid_reference, valid_comparison, valid_condition, valid_end, valid_window, valid_head, fits_template, valid_rule, rules_of, valid_table}
+use Rattle.declare.specs.Suits.{occurs, is_activation, activation_at, before_end, within, correlates, suits}
+use Rattle.declare.specs.Templates.{templates, template_of, in_reach}
+use Rattle.declare.specs.Verdicts.{occurs_at, fits_at, eligible, target, decided, seen, formula_of, decision, verdict}
 use Rattle.declare.specs.Continuations.{horizon, continuation}
-use Rattle.declare.specs.Reachability.{asks, meets, after, edge_of, edge_at, edge, candidates, someMeets, satisfiable, soonest, hasRoom, canCome, canOccur, isSettled, undecided, standing}
-use Rattle.declare.specs.Refusals.{number_of, hasLine}
-use Rattle.declare.specs.Answers.{◌>>◌, require, isAccepted}
-use Rattle.declare.specs.Steps.{closing, closed, admits, isAdmitted, courseWith, courseAfter, course}
-use Rattle.declare.specs.EdgeCycles.{edgeCycles, listing}
-use Rattle.declare.specs.TargetCases.{eventsFrom, targets}
+use Rattle.declare.specs.Reachability.{asks, meets, after, edge_of, edge_at, edge, candidates, some_meets, satisfiable, soonest, has_room, can_come, can_occur, is_settled, undecided, standing}
+use Rattle.declare.specs.Refusals.{number_of, has_line}
+use Rattle.declare.specs.Answers.{◌>>◌, require, is_accepted}
+use Rattle.declare.specs.Steps.{closing, closed, admits, is_admitted, course_with, course_after, course}
+use Rattle.declare.specs.EdgeCycles.{edge_cycles, listing}
+use Rattle.declare.specs.TargetCases.{events_from, targets}
 use Rattle.declare.specs.OverallCases.{starts, overalls}
 use Rattle.declare.specs.TemplateCases.{activations, windows, twelve}
 use Rattle.declare.specs.ConditionCases.{comparisons, conditions}
 use Rattle.declare.specs.BandCases.{bands, banded}
-use Rattle.declare.specs.LimitCases.{limits, withLine, withoutLine}
+use Rattle.declare.specs.LimitCases.{limits, with_line, without_line}
 use Rattle.declare.specs.CallCases.{offers, answers, mixed, overtaken, lapses}
 use Rattle.declare.specs.Checked.{Checked}
 
 pub checked : Checked
-unfolding starts overalls firstTime emptySlot isOverall overallOf fitsTemplate occurs occursAt fitsAt seen formulaOf decision canOccur isSettled closing closed offers answers mixed overtaken lapses admits isAccepted isAdmitted courseWith courseAfter course ◌>>◌ require withLine withoutLine number_of hasLine edgeCycles listing activations windows twelve comparisons conditions bands banded limits eventsFrom targets all any noneBetween firstUpTo lastUpTo firstPast nearest plus holds referenceOf test_of passes comparisonsOf testsOf met least greatest in_range isActivity readingsInRange wellFormed nonFallingFrom nonFalling lastFrom lastTime noEvent eventAt isTemplate isReading validReference validComparison validCondition validEnd validWindow validHead validRule rulesOf validTable isActivation activationAt beforeEnd within correlates suits templates templateOf inReach eligible target decided verdict horizon continuation asks meets after edge_of edge_at edge candidates someMeets satisfiable soonest hasRoom canCome undecided standing
+unfolding starts overalls first_time empty_slot is_overall overall_of fits_template occurs occurs_at fits_at seen formula_of decision can_occur is_settled closing closed offers answers mixed overtaken lapses admits is_accepted is_admitted course_with course_after course ◌>>◌ require with_line without_line number_of has_line edge_cycles listing activations windows twelve comparisons conditions bands banded limits events_from targets all any none_between first_up_to last_up_to first_past nearest plus holds reference_of test_of passes comparisons_of tests_of met least greatest in_range is_activity readings_in_range well_formed non_falling_from non_falling last_from last_time no_event event_at is_template is_reading valid_reference valid_comparison valid_condition valid_end valid_window valid_head valid_rule rules_of valid_table is_activation activation_at before_end within correlates suits templates template_of in_reach eligible target decided verdict horizon continuation asks meets after edge_of edge_at edge candidates some_meets satisfiable soonest has_room can_come undecided standing
 checked =
     record {
-      edge-cycles = refl;
-      the-listing = refl;
-      of-activations = refl;
-      of-windows = refl;
-      of-templates = refl;
-      of-targets = refl;
-      of-starts = refl;
-      of-overalls = refl;
-      of-comparisons = refl;
-      of-conditions = refl;
-      of-bands = refl;
-      of-banded = refl;
-      of-limits = refl;
-      of-numbers = (refl, refl);
-      of-lines = (refl, refl);
-      of-offers = refl;
-      of-mixed = (refl, refl);
-      of-overtaken = (refl, refl);
-      of-lapses = refl;
+      edge_cycles_lem = refl;
+      the_listing = refl;
+      of_activations = refl;
+      of_windows = refl;
+      of_templates = refl;
+      of_targets = refl;
+      of_starts = refl;
+      of_overalls = refl;
+      of_comparisons = refl;
+      of_conditions = refl;
+      of_bands = refl;
+      of_banded = refl;
+      of_limits = refl;
+      of_numbers = (refl, refl);
+      of_lines = (refl, refl);
+      of_offers = refl;
+      of_mixed = (refl, refl);
+      of_overtaken = (refl, refl);
+      of_lapses = refl;
     }

@@ -10,9 +10,9 @@ use lib.Seq.{length-take-le, take-suc-set, set-append_seam}
 use Rattle.declare.specs.Slots.{padded}
 
 module _ {A : Type 0} (room : ℕ) (slot : A) where
-  pub padded-more : (xs : List A) (x : A) (n : ℕ) → length xs ≡ n → n < room → set (padded room slot xs) n x ≡ padded room slot (xs ++ (x ∷ []))
+  pub padded_more : (xs : List A) (x : A) (n : ℕ) → length xs ≡ n → n < room → set (padded room slot xs) n x ≡ padded room slot (xs ++ (x ∷ []))
   unfolding padded
-  padded-more xs x n e l =
+  padded_more xs x n e l =
       let left = room - length (xs ++ (x ∷ [])) in
       let p : room - length xs ≡ suc left = omega (arith, length-append xs (x ∷ [])) in
       rw (← e, p, append_assoc xs (x ∷ []) (replicate left slot)) (set-append_seam xs slot (replicate left slot) x)
@@ -30,17 +30,17 @@ module _ {A : Type 0} (room : ℕ) (slot : A) where
       record { few = omega arith; size = length-replicate room slot; same = ap (λ (n : ℕ). replicate n slot) all }
 
   module _ (count : ℕ) (slots : List A) (h : Filled count slots) where
-    pub filled-count : length (take count slots) ≡ count
-    filled-count = length-take-le count slots (omega (arith, h.few, h.size))
+    pub filled_count : length (take count slots) ≡ count
+    filled_count = length-take-le count slots (omega (arith, h.few, h.size))
 
     module _ (x : A) (l : count < room) where
-      pub filled-values : take (count + 1) (set slots count x) ≡ take count slots ++ (x ∷ [])
-      filled-values = rw (add-one count) (take-suc-set slots count x (omega (arith, h.size)))
+      pub filled_values : take (count + 1) (set slots count x) ≡ take count slots ++ (x ∷ [])
+      filled_values = rw (add-one count) (take-suc-set slots count x (omega (arith, h.size)))
 
       pub filled_more : Filled (count + 1) (set slots count x)
       filled_more =
           record {
             few = omega arith;
             size = length-set slots count x ∙ h.size;
-            same = rw filled-values (ap (λ (s : List A). set s count x) h.same ∙ padded-more (take count slots) x count filled-count l);
+            same = rw filled_values (ap (λ (s : List A). set s count x) h.same ∙ padded_more (take count slots) x count filled_count l);
           }

@@ -12,37 +12,37 @@ use lib.Dec.{leb, ltb}
 use lib.ListN.{length, get_or, take, replicate}
 use lib.Seq.{take-suc}
 use Rattle.declare.specs.Types.{Event}
-use Rattle.declare.specs.Lists.{all, all_below, bit, countBelow}
-use Rattle.declare.specs.Events.{nonFallingFrom, nonFalling, lastFrom, lastTime}
+use Rattle.declare.specs.Lists.{all, all_below, bit, count_below}
+use Rattle.declare.specs.Events.{non_falling_from, non_falling, last_from, last_time}
 use Rattle.declare.proofs.Booleans.{and_left, and_right, both}
-use Rattle.declare.proofs.Extension.{non-falling-parts, last-parts}
+use Rattle.declare.proofs.Extension.{non_falling_parts, last_parts}
 
 -- ---- the first n elements
 
-pub all-parts : {A : Type 0} (p : A → Bool) (xs ys : List A) → all p (xs ++ ys) ≡ (all p xs && all p ys)
+pub all_parts : {A : Type 0} (p : A → Bool) (xs ys : List A) → all p (xs ++ ys) ≡ (all p xs && all p ys)
 unfolding all
-all-parts p [] ys = refl
-all-parts p (x ∷ xs) ys = ap (λ t. p x && t) (all-parts p xs ys) ∙ sym (and_assoc (p x) (all p xs) (all p ys))
+all_parts p [] ys = refl
+all_parts p (x ∷ xs) ys = ap (λ t. p x && t) (all_parts p xs ys) ∙ sym (and_assoc (p x) (all p xs) (all p ys))
 
 -- one more element
 pub all_more : {A : Type 0} (p : A → Bool) (xs : List A) (n : ℕ) (d : A) → n < length xs → all p (take (suc n) xs) ≡ (all p (take n xs) && p (get_or xs n d))
 unfolding all
-all_more p xs n d h = rw (take-suc xs n d h, all-parts p (take n xs) (get_or xs n d ∷ [])) (ap (λ t. all p (take n xs) && t) (and-true (p (get_or xs n d))))
+all_more p xs n d h = rw (take-suc xs n d h, all_parts p (take n xs) (get_or xs n d ∷ [])) (ap (λ t. all p (take n xs) && t) (and-true (p (get_or xs n d))))
 
-pub all-taken : {A : Type 0} (p : A → Bool) (xs : List A) (n : ℕ) (d : A) → n ≤ length xs → all_below (λ k. p (get_or xs k d)) n ≡ all p (take n xs)
+pub all_taken : {A : Type 0} (p : A → Bool) (xs : List A) (n : ℕ) (d : A) → n ≤ length xs → all_below (λ k. p (get_or xs k d)) n ≡ all p (take n xs)
 unfolding all_below all
-all-taken p xs zero d h = refl
-all-taken p xs (suc n) d h =
-    ap (λ t. t && p (get_or xs n d)) (all-taken p xs n d (omega arith)) ∙ sym (all_more p xs n d h)
+all_taken p xs zero d h = refl
+all_taken p xs (suc n) d h =
+    ap (λ t. t && p (get_or xs n d)) (all_taken p xs n d (omega arith)) ∙ sym (all_more p xs n d h)
 
 -- ---- the places below n
 
 -- one place, or each
-pub all-each : (p : ℕ → Bool) (n : ℕ) → all_below p n ≡ true → (k : ℕ) → k < n → p k ≡ true
+pub all_each : (p : ℕ → Bool) (n : ℕ) → all_below p n ≡ true → (k : ℕ) → k < n → p k ≡ true
 unfolding all_below
-all-each p zero h k l = absurd (not-suc-le-zero l)
-all-each p (suc n) h k l =
-    ⊎_elim (λ e. rw e (and_right (all_below p n) (p n) h)) (λ m. all-each p n (and_left (all_below p n) (p n) h) k m) (eq-or-lt_of_le (le_of_suc-le-suc l))
+all_each p zero h k l = absurd (not-suc-le-zero l)
+all_each p (suc n) h k l =
+    ⊎_elim (λ e. rw e (and_right (all_below p n) (p n) h)) (λ m. all_each p n (and_left (all_below p n) (p n) h) k m) (eq-or-lt_of_le (le_of_suc-le-suc l))
 
 pub each_all : (p : ℕ → Bool) (n : ℕ) → ((k : ℕ) → k < n → p k ≡ true) → all_below p n ≡ true
 unfolding all_below
@@ -63,13 +63,13 @@ all_split p a (suc b) =
     rw e (ap (λ t. t && p (a + b)) (all_split p a b) ∙ and_assoc (all_below p a) (all_below (λ k. p (a + k)) b) (p (a + b)))
 
 -- places in one row after the other, as rows
-pub all-rows : (q : ℕ → ℕ → Bool) (n : ℕ) → all_below (λ j. q (j / 256) (j % 256)) (n * 256) ≡ all_below (λ k. all_below (q k) 256) n
+pub all_rows : (q : ℕ → ℕ → Bool) (n : ℕ) → all_below (λ j. q (j / 256) (j % 256)) (n * 256) ≡ all_below (λ k. all_below (q k) 256) n
 unfolding all_below
-all-rows q zero = refl
-all-rows q (suc n) =
+all_rows q zero = refl
+all_rows q (suc n) =
     let e : suc n * 256 ≡ n * 256 + 256 = omega arith in
     rw (e, all_split (λ j. q (j / 256) (j % 256)) (n * 256) 256)
-    (ap₂ ◌&&◌ (all-rows q n) (all_same (λ p. q ((n * 256 + p) / 256) ((n * 256 + p) % 256)) (q n) 256 (λ p l. row p l)))
+    (ap₂ ◌&&◌ (all_rows q n) (all_same (λ p. q ((n * 256 + p) / 256) ((n * 256 + p) % 256)) (q n) 256 (λ p l. row p l)))
   where
     row : (p : ℕ) → p < 256 → q ((n * 256 + p) / 256) ((n * 256 + p) % 256) ≡ q n p
     row p l =
@@ -77,22 +77,22 @@ all-rows q (suc n) =
         let b : (n * 256 + p) % 256 ≡ p = omega arith in
         rw (a, b) refl
 
-pub count_same : (p q : ℕ → Bool) (n : ℕ) → ((k : ℕ) → k < n → p k ≡ q k) → countBelow p n ≡ countBelow q n
-unfolding countBelow
+pub count_same : (p q : ℕ → Bool) (n : ℕ) → ((k : ℕ) → k < n → p k ≡ q k) → count_below p n ≡ count_below q n
+unfolding count_below
 count_same p q zero f = refl
 count_same p q (suc n) f =
     ap₂ (λ (a : ℕ) (b : Bool). a + bit b) (count_same p q n (λ k l. f k (omega arith))) (f n (omega arith))
 
 -- ---- one event more
 
-pub falls-more : (es : List Event) (e : Event) → nonFalling (es ++ e ∷ []) ≡ (nonFalling es && leb (lastTime es) e.time)
-unfolding nonFalling nonFallingFrom lastTime
-falls-more es e =
-    non-falling-parts 0 es (e ∷ []) ∙ ap (λ t. nonFallingFrom 0 es && t) (and-true (leb (lastFrom 0 es) e.time))
+pub falls_more : (es : List Event) (e : Event) → non_falling (es ++ e ∷ []) ≡ (non_falling es && leb (last_time es) e.time)
+unfolding non_falling non_falling_from last_time
+falls_more es e =
+    non_falling_parts 0 es (e ∷ []) ∙ ap (λ t. non_falling_from 0 es && t) (and-true (leb (last_from 0 es) e.time))
 
-pub last_more : (es : List Event) (e : Event) → lastTime (es ++ e ∷ []) ≡ e.time
-unfolding lastTime lastFrom
-last_more es e = last-parts 0 es (e ∷ [])
+pub last_more : (es : List Event) (e : Event) → last_time (es ++ e ∷ []) ≡ e.time
+unfolding last_time last_from
+last_more es e = last_parts 0 es (e ∷ [])
 
 -- ---- others
 
@@ -103,15 +103,15 @@ replicated (suc n) zero a = refl
 replicated (suc n) (suc i) a = replicated n i a
 
 -- the two orders as tests
-pub leb-not : (a b : ℕ) → leb a b ≡ not (ltb b a)
-leb-not a b = go (ltb b a) refl
+pub leb_not : (a b : ℕ) → leb a b ≡ not (ltb b a)
+leb_not a b = go (ltb b a) refl
   where
     go : (t : Bool) → ltb b a ≡ t → leb a b ≡ not t
     go true q = lt-leb a b (ltb-true b a q)
     go false q = le-leb a b (ltb-false b a q)
 
-pub ltb-not : (a b : ℕ) → ltb a b ≡ not (leb b a)
-ltb-not a b = go (leb b a) refl
+pub ltb_not : (a b : ℕ) → ltb a b ≡ not (leb b a)
+ltb_not a b = go (leb b a) refl
   where
     go : (t : Bool) → leb b a ≡ t → ltb a b ≡ not t
     go true q = le-ltb a b (leb-true b a q)

@@ -10,43 +10,43 @@ use lib.ListN.{length, take, replicate, length-append, length-replicate}
 use lib.Seq.{take-append_seam, length-take-le, get_or-take}
 use Rattle.declare.specs.Types.{Rule, Table}
 use Rattle.declare.specs.Lists.{all}
-use Rattle.declare.specs.Limits.{mostRules}
-use Rattle.declare.specs.Rules.{validRule, noRule, ruleAt, rulesOf, validTable}
+use Rattle.declare.specs.Limits.{most_rules}
+use Rattle.declare.specs.Rules.{valid_rule, no_rule, rule_at, rules_of, valid_table}
 use Rattle.declare.specs.Slots.{padded, table_of}
-use Rattle.declare.proofs.Booleans.{and_left, and_right, both, all-at}
+use Rattle.declare.proofs.Booleans.{and_left, and_right, both, all_at}
 
 -- ---- a valid table
 
-pub rules-within : (t : Table) → validTable t ≡ true → t.count ≤ mostRules
-unfolding validTable
-rules-within t v = leb-true t.count mostRules (and_left (leb t.count mostRules) (all validRule (rulesOf t)) v)
+pub rules_within : (t : Table) → valid_table t ≡ true → t.count ≤ most_rules
+unfolding valid_table
+rules_within t v = leb-true t.count most_rules (and_left (leb t.count most_rules) (all valid_rule (rules_of t)) v)
 
-module _ (t : Table) (slots : length t.rules ≡ mostRules) where
-  pub rule-count : t.count ≤ mostRules → length (rulesOf t) ≡ t.count
-  unfolding rulesOf
-  rule-count n = length-take-le t.count t.rules (omega arith)
+module _ (t : Table) (slots : length t.rules ≡ most_rules) where
+  pub rule_count : t.count ≤ most_rules → length (rules_of t) ≡ t.count
+  unfolding rules_of
+  rule_count n = length-take-le t.count t.rules (omega arith)
 
-  pub rule-valid : validTable t ≡ true → (k : ℕ) → 1 ≤ k → k ≤ t.count → validRule (ruleAt t k) ≡ true
-  unfolding validTable ruleAt rulesOf
-  rule-valid v k a b =
-      let n : length (take t.count t.rules) ≡ t.count = rule-count (rules-within t v) in
-      sym (ap validRule (get_or-take t.count t.rules (k - 1) noRule (omega arith)))
-      ∙ all-at validRule (take t.count t.rules) (k - 1) noRule (and_right (leb t.count mostRules) (all validRule (take t.count t.rules)) v) (omega arith)
+  pub rule_valid : valid_table t ≡ true → (k : ℕ) → 1 ≤ k → k ≤ t.count → valid_rule (rule_at t k) ≡ true
+  unfolding valid_table rule_at rules_of
+  rule_valid v k a b =
+      let n : length (take t.count t.rules) ≡ t.count = rule_count (rules_within t v) in
+      sym (ap valid_rule (get_or-take t.count t.rules (k - 1) no_rule (omega arith)))
+      ∙ all_at valid_rule (take t.count t.rules) (k - 1) no_rule (and_right (leb t.count most_rules) (all valid_rule (take t.count t.rules)) v) (omega arith)
 
 -- ---- the table of a list of rules
 
 module _ (rs : List Rule) where
-  pub table-rules : rulesOf (table_of rs) ≡ rs
-  unfolding rulesOf table_of padded
-  table-rules = take-append_seam rs (replicate (mostRules - length rs) noRule)
+  pub table_rules : rules_of (table_of rs) ≡ rs
+  unfolding rules_of table_of padded
+  table_rules = take-append_seam rs (replicate (most_rules - length rs) no_rule)
 
-  module _ (most : length rs ≤ mostRules) where
-    pub table-slots : length (table_of rs).rules ≡ mostRules
+  module _ (most : length rs ≤ most_rules) where
+    pub table_slots : length (table_of rs).rules ≡ most_rules
     unfolding table_of padded
-    table-slots = simp (length-append, length-replicate) (omega arith)
+    table_slots = simp (length-append, length-replicate) (omega arith)
 
-    pub table-valid : all validRule rs ≡ true → validTable (table_of rs) ≡ true
-    unfolding validTable
-    table-valid v =
-        let few : leb (table_of rs).count mostRules ≡ true = unfold table_of in le-leb (length rs) mostRules most in
-        both few (rw table-rules v)
+    pub table_valid : all valid_rule rs ≡ true → valid_table (table_of rs) ≡ true
+    unfolding valid_table
+    table_valid v =
+        let few : leb (table_of rs).count most_rules ≡ true = unfold table_of in le-leb (length rs) most_rules most in
+        both few (rw table_rules v)

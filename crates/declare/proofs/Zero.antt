@@ -7,65 +7,65 @@ use native.Mathlib.Omega.{arith}
 use borrow.Author.Tests.{ne_eqb, lt-leb}
 use lib.Dec.{eqb}
 use Rattle.declare.specs.Types.{Event, Rule}
-use Rattle.declare.specs.Events.{eventAt}
-use Rattle.declare.specs.Overall.{isOverall}
-use Rattle.declare.specs.Suits.{isActivation, activationAt, suits}
-use Rattle.declare.specs.Templates.{inReach, reachOf, polarityOf}
-use Rattle.declare.specs.Verdicts.{fitsAt, eligible, target, decided, formulaOf, fulfilledIf, decision}
-use Rattle.declare.specs.Reachability.{canCome, canOccur, isSettled, undecided}
+use Rattle.declare.specs.Events.{event_at}
+use Rattle.declare.specs.Overall.{is_overall}
+use Rattle.declare.specs.Suits.{is_activation, activation_at, suits}
+use Rattle.declare.specs.Templates.{in_reach, reach_of, polarity_of}
+use Rattle.declare.specs.Verdicts.{fits_at, eligible, target, decided, formula_of, fulfilled_if, decision}
+use Rattle.declare.specs.Reachability.{can_come, can_occur, is_settled, undecided}
 use Rattle.declare.specs.Steps.{closing}
 
 -- the templates 1 to 12 are not about the cycle
-pub not-overall : (code : ℕ) → code ≤ 12 → isOverall code ≡ false
-unfolding isOverall
-not-overall code few = rw (lt-leb 13 code (omega arith)) refl
+pub not_overall : (code : ℕ) → code ≤ 12 → is_overall code ≡ false
+unfolding is_overall
+not_overall code few = rw (lt-leb 13 code (omega arith)) refl
 
 module _ (r : Rule) (es : List Event) where
-  pub activation-zero : activationAt r es 0 ≡ isOverall r.code
-  unfolding activationAt
-  activation-zero = refl
+  pub activation_zero : activation_at r es 0 ≡ is_overall r.code
+  unfolding activation_at
+  activation_zero = refl
 
-  pub eligible-zero : (j : ℕ) → eligible r es 0 j ≡ fitsAt r es j
+  pub eligible_zero : (j : ℕ) → eligible r es 0 j ≡ fits_at r es j
   unfolding eligible
-  eligible-zero j = refl
+  eligible_zero j = refl
 
-  pub decision-zero : decision r es 0 ≡ fulfilledIf (formulaOf r es) (target r es 0)
+  pub decision_zero : decision r es 0 ≡ fulfilled_if (formula_of r es) (target r es 0)
   unfolding decision
-  decision-zero = refl
+  decision_zero = refl
 
-  pub undecided-zero : (h : ℕ) → undecided r es h 0 ≡ (not (isSettled r es) && canOccur r es h)
+  pub undecided_zero : (h : ℕ) → undecided r es h 0 ≡ (not (is_settled r es) && can_occur r es h)
   unfolding undecided
-  undecided-zero h = refl
+  undecided_zero h = refl
 
-  pub closing-zero : closing r es 0 ≡ decision r es 0
+  pub closing_zero : closing r es 0 ≡ decision r es 0
   unfolding closing
-  closing-zero = refl
+  closing_zero = refl
 
   module _ (i : ℕ) (low : 1 ≤ i) where
-    at-event : eqb i 0 ≡ false
-    at-event = ne_eqb i 0 (omega arith)
+    at_event : eqb i 0 ≡ false
+    at_event = ne_eqb i 0 (omega arith)
 
-    pub activation-event : activationAt r es i ≡ isActivation r (eventAt es i)
-    unfolding activationAt
-    activation-event = rw at-event
+    pub activation_event : activation_at r es i ≡ is_activation r (event_at es i)
+    unfolding activation_at
+    activation_event = rw at_event
 
-    pub eligible-event : (j : ℕ) → eligible r es i j ≡ (suits r (eventAt es i) (eventAt es j) && inReach (reachOf r) (activationAt r es) i j)
+    pub eligible_event : (j : ℕ) → eligible r es i j ≡ (suits r (event_at es i) (event_at es j) && in_reach (reach_of r) (activation_at r es) i j)
     unfolding eligible
-    eligible-event j = rw at-event
+    eligible_event j = rw at_event
 
-    pub decision-event : decision r es i ≡ decided (polarityOf r) (target r es i)
+    pub decision_event : decision r es i ≡ decided (polarity_of r) (target r es i)
     unfolding decision
-    decision-event = rw at-event
+    decision_event = rw at_event
 
-    pub undecided-event : (h : ℕ) → undecided r es h i ≡ (eqb (target r es i) 0 && canCome r es h i)
+    pub undecided_event : (h : ℕ) → undecided r es h i ≡ (eqb (target r es i) 0 && can_come r es h i)
     unfolding undecided
-    undecided-event h = rw at-event
+    undecided_event h = rw at_event
 
-    pub closing-event : closing r es i ≡ decided (polarityOf r) 0
+    pub closing_event : closing r es i ≡ decided (polarity_of r) 0
     unfolding closing
-    closing-event = rw at-event
+    closing_event = rw at_event
 
   -- an activation under one of the templates 1 to 12 is an event
-  pub active-event : (i : ℕ) → activationAt r es i ≡ true → r.code ≤ 12 → 1 ≤ i
-  active-event zero act few = absurd (true≢false (sym act ∙ activation-zero ∙ not-overall r.code few))
-  active-event (suc i) act few = omega arith
+  pub active_event : (i : ℕ) → activation_at r es i ≡ true → r.code ≤ 12 → 1 ≤ i
+  active_event zero act few = absurd (true≢false (sym act ∙ activation_zero ∙ not_overall r.code few))
+  active_event (suc i) act few = omega arith

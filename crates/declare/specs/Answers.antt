@@ -19,9 +19,9 @@ unfoldable pub ◌>>◌ : {B : Type 0} → Answer (Unit {0}) → Answer B → An
 unfoldable pub require : Bool → ℕ → Answer (Unit {0})
 require test n = cond test (accepted tt) (refused n)
 
-unfoldable pub isAccepted : {A : Type 0} → Answer A → Bool
-isAccepted (accepted a) = true
-isAccepted (refused n) = false
+unfoldable pub is_accepted : {A : Type 0} → Answer A → Bool
+is_accepted (accepted a) = true
+is_accepted (refused n) = false
 
 -- "a refusal alters neither run nor tally": what stands after a call on `before`
 unfoldable pub after_call : {A : Type 0} → A → Answer A → A

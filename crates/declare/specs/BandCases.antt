@@ -2,7 +2,7 @@
 -- on a reading jointly".
 use Rattle.std.specs.Prelude.{Bool, true, false, List, [], ◌∷◌, ℕ, ℤ, pos, negsuc}
 use Rattle.declare.specs.Types.{Operator, Equal, NotEqual, Less, AtMost, Greater, AtLeast, Constant, Activation, Comparison, Condition, Never, Rule, Idle, Open, Fulfilled, Violated}
-use Rattle.declare.specs.Conditions.{testsOf, met}
+use Rattle.declare.specs.Conditions.{tests_of, met}
 use Rattle.declare.specs.Reachability.{satisfiable}
 use Rattle.declare.specs.EdgeCycles.{Case, ◌is◌, compare, unused, always, window, rule, event, reads, live}
 use Rattle.declare.specs.ConditionCases.{Check, ◌gives◌, MIN, MAX}
@@ -12,8 +12,8 @@ use Rattle.declare.specs.OverallCases.{overall}
 abbrev pub one : Operator → ℤ → Comparison
 one operator k = compare 1 operator (Constant k)
 
-abbrev pub oneWith : Operator → ℤ → Comparison
-oneWith operator k = compare 1 operator (Activation 1 k)
+abbrev pub one_with : Operator → ℤ → Comparison
+one_with operator k = compare 1 operator (Activation 1 k)
 
 abbrev pub two : Comparison → Comparison → Condition
 two a b = record { count = 2; first = a; second = b; third = unused; fourth = unused }
@@ -26,17 +26,17 @@ four a b c d = record { count = 4; first = a; second = b; third = c; fourth = d 
 
 -- some event can meet it, after an activation without readings, and after one that reads v
 abbrev pub can : Condition → Bool
-can condition = satisfiable (testsOf (event 0 1) condition)
+can condition = satisfiable (tests_of (event 0 1) condition)
 
-abbrev pub canAfter : ℤ → Condition → Bool
-canAfter v condition = satisfiable (testsOf (reads 0 1 v) condition)
+abbrev pub can_after : ℤ → Condition → Bool
+can_after v condition = satisfiable (tests_of (reads 0 1 v) condition)
 
 -- "above 5 and below 7 leaves 6, and adding "not 6" leaves none"
 abbrev pub leaves6 : Condition
 leaves6 = two (one Greater (pos 5)) (one Less (pos 7))
 
-abbrev pub leavesNone : Condition
-leavesNone = three (one Greater (pos 5)) (one Less (pos 7)) (one NotEqual (pos 6))
+abbrev pub leaves_none : Condition
+leaves_none = three (one Greater (pos 5)) (one Less (pos 7)) (one NotEqual (pos 6))
 
 -- from 5 to 6, without these two
 abbrev pub from5to6 : ℤ → ℤ → Condition
@@ -57,7 +57,7 @@ bands =
     ∷ met leaves6 (event 0 1) (reads 0 2 (pos 7)) gives false
     ∷ met leaves6 (event 0 1) (event 0 2) gives false
     ∷ can leaves6 gives true
-    ∷ can leavesNone gives false
+    ∷ can leaves_none gives false
     -- a comparison of another reading, wherever it stands, leaves this one free
     ∷ can (three (one Greater (pos 5)) (one Less (pos 7)) (compare 2 NotEqual (Constant (pos 6)))) gives true
     ∷ can (three (compare 2 NotEqual (Constant (pos 6))) (one Greater (pos 5)) (one Less (pos 7))) gives true
@@ -76,16 +76,16 @@ bands =
     ∷ can (highest (pos 2147483645)) gives false
     ∷ can (highest (pos 2147483644)) gives true
     -- sums beyond 32 bits, alone and beside numbers in the range
-    ∷ canAfter MAX (two (oneWith Greater (pos 5)) (oneWith Less (pos 7))) gives false
-    ∷ canAfter MAX (two (oneWith Greater (negsuc 0)) (oneWith Less (pos 5))) gives true
-    ∷ canAfter MAX (three (oneWith Greater (negsuc 0)) (oneWith Less (pos 5)) (one NotEqual MAX)) gives false
-    ∷ canAfter MIN (two (oneWith Greater (negsuc 6)) (oneWith Less (negsuc 4))) gives false
-    ∷ canAfter MIN (two (oneWith Greater (negsuc 4)) (oneWith Less (pos 1))) gives true
-    ∷ canAfter MIN (three (oneWith Greater (negsuc 4)) (oneWith Less (pos 1)) (one NotEqual MIN)) gives false
-    ∷ canAfter (pos 4) (two (oneWith Greater (pos 1)) (one Less (pos 7))) gives true
-    ∷ canAfter (pos 4) (three (oneWith Greater (pos 1)) (one Less (pos 7)) (oneWith NotEqual (pos 2))) gives false
+    ∷ can_after MAX (two (one_with Greater (pos 5)) (one_with Less (pos 7))) gives false
+    ∷ can_after MAX (two (one_with Greater (negsuc 0)) (one_with Less (pos 5))) gives true
+    ∷ can_after MAX (three (one_with Greater (negsuc 0)) (one_with Less (pos 5)) (one NotEqual MAX)) gives false
+    ∷ can_after MIN (two (one_with Greater (negsuc 6)) (one_with Less (negsuc 4))) gives false
+    ∷ can_after MIN (two (one_with Greater (negsuc 4)) (one_with Less (pos 1))) gives true
+    ∷ can_after MIN (three (one_with Greater (negsuc 4)) (one_with Less (pos 1)) (one NotEqual MIN)) gives false
+    ∷ can_after (pos 4) (two (one_with Greater (pos 1)) (one Less (pos 7))) gives true
+    ∷ can_after (pos 4) (three (one_with Greater (pos 1)) (one Less (pos 7)) (one_with NotEqual (pos 2))) gives false
     -- against a blank none holds, whatever the others leave
-    ∷ can (two (one AtLeast (pos 5)) (oneWith NotEqual (pos 0))) gives false
+    ∷ can (two (one AtLeast (pos 5)) (one_with NotEqual (pos 0))) gives false
     ∷ []
 
 -- a rule of this code with the band as its correlation, and as its activation condition
@@ -102,16 +102,16 @@ banded =
     ∷ live (towards 2 leaves6) (event 0 1 ∷ reads 0 2 (pos 5) ∷ reads 0 2 (pos 7) ∷ []) 1 is Open
     ∷ live (towards 2 leaves6) (event 0 1 ∷ reads 0 2 (pos 5) ∷ reads 0 2 (pos 6) ∷ []) 1 is Fulfilled 3
     -- "so a response stands violated on arrival"
-    ∷ live (towards 2 leavesNone) (event 0 1 ∷ []) 1 is Violated 0
-    ∷ live (towards 1 leavesNone) (event 0 1 ∷ []) 1 is Violated 0
-    ∷ live (towards 3 leavesNone) (event 0 1 ∷ []) 1 is Violated 0
-    ∷ live (towards 4 leavesNone) (event 0 1 ∷ []) 1 is Violated 0
-    ∷ live (towards 8 leavesNone) (event 0 1 ∷ []) 1 is Fulfilled 0
-    ∷ live (towards 9 leavesNone) (event 0 1 ∷ []) 1 is Fulfilled 0
-    ∷ live (towards 11 leavesNone) (event 0 1 ∷ []) 1 is Fulfilled 0
+    ∷ live (towards 2 leaves_none) (event 0 1 ∷ []) 1 is Violated 0
+    ∷ live (towards 1 leaves_none) (event 0 1 ∷ []) 1 is Violated 0
+    ∷ live (towards 3 leaves_none) (event 0 1 ∷ []) 1 is Violated 0
+    ∷ live (towards 4 leaves_none) (event 0 1 ∷ []) 1 is Violated 0
+    ∷ live (towards 8 leaves_none) (event 0 1 ∷ []) 1 is Fulfilled 0
+    ∷ live (towards 9 leaves_none) (event 0 1 ∷ []) 1 is Fulfilled 0
+    ∷ live (towards 11 leaves_none) (event 0 1 ∷ []) 1 is Fulfilled 0
     -- by the activation's reading
-    ∷ live (towards 2 (two (oneWith Greater (pos 5)) (oneWith Less (pos 7)))) (reads 0 1 (pos 2147483641) ∷ []) 1 is Open
-    ∷ live (towards 2 (two (oneWith Greater (pos 5)) (oneWith Less (pos 7)))) (reads 0 1 (pos 2147483642) ∷ []) 1 is Violated 0
+    ∷ live (towards 2 (two (one_with Greater (pos 5)) (one_with Less (pos 7)))) (reads 0 1 (pos 2147483641) ∷ []) 1 is Open
+    ∷ live (towards 2 (two (one_with Greater (pos 5)) (one_with Less (pos 7)))) (reads 0 1 (pos 2147483642) ∷ []) 1 is Violated 0
     -- an activation condition
     ∷ live from6 (reads 0 1 (pos 5) ∷ []) 1 is Idle
     ∷ live from6 (reads 0 1 (pos 6) ∷ []) 1 is Open
@@ -120,9 +120,9 @@ banded =
     ∷ live (overall 13 0 Never leaves6) [] 0 is Open
     ∷ live (overall 13 0 Never leaves6) (reads 0 1 (pos 5) ∷ []) 0 is Open
     ∷ live (overall 13 0 Never leaves6) (reads 0 1 (pos 6) ∷ []) 0 is Fulfilled 1
-    ∷ live (overall 13 0 Never leavesNone) [] 0 is Violated 0
-    ∷ live (overall 14 0 Never leavesNone) [] 0 is Fulfilled 0
-    ∷ live (overall 15 0 Never leavesNone) [] 0 is Violated 0
-    ∷ live (overall 16 0 Never leavesNone) [] 0 is Violated 0
-    ∷ live (overall 13 0 Never leavesNone) (reads 0 1 (pos 6) ∷ []) 0 is Violated 0
+    ∷ live (overall 13 0 Never leaves_none) [] 0 is Violated 0
+    ∷ live (overall 14 0 Never leaves_none) [] 0 is Fulfilled 0
+    ∷ live (overall 15 0 Never leaves_none) [] 0 is Violated 0
+    ∷ live (overall 16 0 Never leaves_none) [] 0 is Violated 0
+    ∷ live (overall 13 0 Never leaves_none) (reads 0 1 (pos 6) ∷ []) 0 is Violated 0
     ∷ []

@@ -60,11 +60,11 @@ mixed =
 unfoldable pub overtaken : List Call
 overtaken = notices 5 ∷ takes (event 9 1) ∷ notices 8 ∷ []
 
-abbrev pub takenTimes : List Call → List ℕ
-takenTimes calls = map (λ (e : Event). e.time) (taken calls)
+abbrev pub taken_times : List Call → List ℕ
+taken_times calls = map (λ (e : Event). e.time) (taken calls)
 
-abbrev pub clockAfter : List Call → ℕ
-clockAfter calls = (course calls).clock
+abbrev pub clock_after : List Call → ℕ
+clock_after calls = (course calls).clock
 
 -- a window that ends while no event comes
 unfoldable pub lapses : List Case

@@ -1,7 +1,7 @@
 -- Cases of comparisons and conditions.
 use Rattle.std.specs.Prelude.{Bool, true, false, List, [], ◌∷◌, ℕ, ℤ, pos, negsuc}
 use Rattle.declare.specs.Types.{Value, Event, Operator, Equal, NotEqual, Less, AtMost, Greater, AtLeast, Constant, Activation, Condition}
-use Rattle.declare.specs.Conditions.{testsOf, met}
+use Rattle.declare.specs.Conditions.{tests_of, met}
 use Rattle.declare.specs.Reachability.{satisfiable}
 use Rattle.declare.specs.EdgeCycles.{compare, always, when, event, reads}
 
@@ -19,11 +19,11 @@ abbrev pub meets : Operator → ℤ → ℤ → Bool
 meets operator x k = met (when operator (Constant k)) (event 0 1) (reads 0 2 x)
 
 abbrev pub can : Operator → ℤ → Bool
-can operator k = satisfiable (testsOf (event 0 1) (when operator (Constant k)))
+can operator k = satisfiable (tests_of (event 0 1) (when operator (Constant k)))
 
 -- against reading 1 of an activation that reads v, plus k
-abbrev pub canWith : Operator → ℤ → ℤ → Bool
-canWith operator v k = satisfiable (testsOf (reads 0 1 v) (when operator (Activation 1 k)))
+abbrev pub can_with : Operator → ℤ → ℤ → Bool
+can_with operator v k = satisfiable (tests_of (reads 0 1 v) (when operator (Activation 1 k)))
 
 abbrev pub MIN : ℤ
 MIN = negsuc 2147483647
@@ -63,25 +63,25 @@ comparisons =
     ∷ can Greater (pos 2147483646) gives true
     ∷ can AtLeast MAX gives true
     -- sums that pass it
-    ∷ canWith Equal MAX (pos 1) gives false
-    ∷ canWith Equal MAX (pos 0) gives true
-    ∷ canWith Equal MIN (negsuc 0) gives false
-    ∷ canWith NotEqual MAX (pos 1) gives true
-    ∷ canWith Less MIN (pos 0) gives false
-    ∷ canWith Less MIN (pos 1) gives true
-    ∷ canWith AtMost MIN (negsuc 0) gives false
-    ∷ canWith AtMost MIN (pos 0) gives true
-    ∷ canWith Greater MAX (pos 0) gives false
-    ∷ canWith Greater MAX (negsuc 0) gives true
-    ∷ canWith AtLeast MAX (pos 1) gives false
-    ∷ canWith AtLeast MAX (pos 0) gives true
-    ∷ canWith Greater MIN (negsuc 0) gives true
+    ∷ can_with Equal MAX (pos 1) gives false
+    ∷ can_with Equal MAX (pos 0) gives true
+    ∷ can_with Equal MIN (negsuc 0) gives false
+    ∷ can_with NotEqual MAX (pos 1) gives true
+    ∷ can_with Less MIN (pos 0) gives false
+    ∷ can_with Less MIN (pos 1) gives true
+    ∷ can_with AtMost MIN (negsuc 0) gives false
+    ∷ can_with AtMost MIN (pos 0) gives true
+    ∷ can_with Greater MAX (pos 0) gives false
+    ∷ can_with Greater MAX (negsuc 0) gives true
+    ∷ can_with AtLeast MAX (pos 1) gives false
+    ∷ can_with AtLeast MAX (pos 0) gives true
+    ∷ can_with Greater MIN (negsuc 0) gives true
     -- a blank on either side
     ∷ met (when NotEqual (Constant (pos 5))) (event 0 1) (event 0 2) gives false
     ∷ met (when Equal (Activation 1 (pos 0))) (event 0 1) (reads 0 2 (pos 0)) gives false
     ∷ met (when NotEqual (Activation 1 (pos 0))) (event 0 1) (reads 0 2 (pos 0)) gives false
     ∷ met (when Equal (Activation 1 (pos 0))) (event 0 1) (event 0 2) gives false
-    ∷ satisfiable (testsOf (event 0 1) (when NotEqual (Activation 1 (pos 0)))) gives false
+    ∷ satisfiable (tests_of (event 0 1) (when NotEqual (Activation 1 (pos 0)))) gives false
     -- an empty condition is met
     ∷ met always (event 0 1) (event 0 2) gives true
     ∷ []

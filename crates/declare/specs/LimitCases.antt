@@ -1,8 +1,8 @@
 -- Cases of limits and refusals.
 use Rattle.std.specs.Prelude.{true, false, List, [], ◌∷◌, map, ℕ, pos, negsuc}
 use Rattle.declare.specs.Types.{Blank, Value, Equal, Less, Constant, Activation, Condition, End, Never, At, Rule, Table, FieldCount, NumberForm, OutOfRange, ComparisonForm, EmptyWindow, TimeFalls, TooMany, WrongPhase, NotFound, InvalidRecord, NoLineEnd, NoFile, TallyOverflow, BufferTooShort, TemplateMismatch, TooManyComparisons}
-use Rattle.declare.specs.Events.{wellFormed, nonFalling}
-use Rattle.declare.specs.Rules.{validRule, validTable}
+use Rattle.declare.specs.Events.{well_formed, non_falling}
+use Rattle.declare.specs.Rules.{valid_rule, valid_table}
 use Rattle.declare.specs.Continuations.{continuation}
 use Rattle.declare.specs.Refusals.{number_of}
 use Rattle.declare.specs.EdgeCycles.{compare, unused, always, when, window, event, reads}
@@ -48,73 +48,73 @@ table count rules = record { count = count; rules = rules }
 
 unfoldable pub limits : List Check
 limits =
-    wellFormed (event 0 0) gives false
-    ∷ wellFormed (event 0 1) gives true
-    ∷ wellFormed (event 0 64) gives true
-    ∷ wellFormed (event 0 65) gives false
-    ∷ wellFormed (event 4294967295 1) gives true
-    ∷ wellFormed (event 4294967296 1) gives false
-    ∷ wellFormed (reads 0 1 MIN) gives true
-    ∷ wellFormed (reads 0 1 MAX) gives true
-    ∷ wellFormed (reads 0 1 (negsuc 2147483648)) gives false
-    ∷ wellFormed (reads 0 1 (pos 2147483648)) gives false
-    ∷ wellFormed (record { time = 0; activity = 1; reading1 = Blank; reading2 = Blank; reading3 = Blank; reading4 = Value (pos 2147483648) }) gives false
-    ∷ validRule (limited 0 1 1 0 Never) gives false
-    ∷ validRule (limited 1 1 1 0 Never) gives true
-    ∷ validRule (limited 12 64 64 0 Never) gives true
-    ∷ validRule (limited 13 1 2 0 Never) gives true
-    ∷ validRule (limited 16 1 2 0 Never) gives true
-    ∷ validRule (limited 17 1 2 0 Never) gives false
-    ∷ validRule (limited 1 0 1 0 Never) gives false
-    ∷ validRule (limited 1 65 1 0 Never) gives false
-    ∷ validRule (limited 1 1 0 0 Never) gives false
-    ∷ validRule (limited 1 1 65 0 Never) gives false
-    ∷ validRule (limited 1 1 1 4294967295 Never) gives true
-    ∷ validRule (limited 1 1 1 4294967296 Never) gives false
-    ∷ validRule (limited 1 1 1 5 (At 6)) gives true
-    ∷ validRule (limited 1 1 1 5 (At 5)) gives false
-    ∷ validRule (limited 1 1 1 6 (At 5)) gives false
-    ∷ validRule (limited 1 1 1 0 (At 0)) gives false
-    ∷ validRule (limited 1 1 1 0 (At 4294967295)) gives true
-    ∷ validRule (limited 1 1 1 0 (At 4294967296)) gives false
+    well_formed (event 0 0) gives false
+    ∷ well_formed (event 0 1) gives true
+    ∷ well_formed (event 0 64) gives true
+    ∷ well_formed (event 0 65) gives false
+    ∷ well_formed (event 4294967295 1) gives true
+    ∷ well_formed (event 4294967296 1) gives false
+    ∷ well_formed (reads 0 1 MIN) gives true
+    ∷ well_formed (reads 0 1 MAX) gives true
+    ∷ well_formed (reads 0 1 (negsuc 2147483648)) gives false
+    ∷ well_formed (reads 0 1 (pos 2147483648)) gives false
+    ∷ well_formed (record { time = 0; activity = 1; reading1 = Blank; reading2 = Blank; reading3 = Blank; reading4 = Value (pos 2147483648) }) gives false
+    ∷ valid_rule (limited 0 1 1 0 Never) gives false
+    ∷ valid_rule (limited 1 1 1 0 Never) gives true
+    ∷ valid_rule (limited 12 64 64 0 Never) gives true
+    ∷ valid_rule (limited 13 1 2 0 Never) gives true
+    ∷ valid_rule (limited 16 1 2 0 Never) gives true
+    ∷ valid_rule (limited 17 1 2 0 Never) gives false
+    ∷ valid_rule (limited 1 0 1 0 Never) gives false
+    ∷ valid_rule (limited 1 65 1 0 Never) gives false
+    ∷ valid_rule (limited 1 1 0 0 Never) gives false
+    ∷ valid_rule (limited 1 1 65 0 Never) gives false
+    ∷ valid_rule (limited 1 1 1 4294967295 Never) gives true
+    ∷ valid_rule (limited 1 1 1 4294967296 Never) gives false
+    ∷ valid_rule (limited 1 1 1 5 (At 6)) gives true
+    ∷ valid_rule (limited 1 1 1 5 (At 5)) gives false
+    ∷ valid_rule (limited 1 1 1 6 (At 5)) gives false
+    ∷ valid_rule (limited 1 1 1 0 (At 0)) gives false
+    ∷ valid_rule (limited 1 1 1 0 (At 4294967295)) gives true
+    ∷ valid_rule (limited 1 1 1 0 (At 4294967296)) gives false
     -- `@` stands in a correlation only
-    ∷ validRule (conditioned (when Equal (Constant (pos 0))) always) gives true
-    ∷ validRule (conditioned (when Equal (Activation 1 (pos 0))) always) gives false
-    ∷ validRule (conditioned always (when Equal (Activation 1 (pos 0)))) gives true
-    ∷ validRule (conditioned always (when Equal (Activation 4 (pos 0)))) gives true
-    ∷ validRule (conditioned always (when Equal (Activation 0 (pos 0)))) gives false
-    ∷ validRule (conditioned always (when Equal (Activation 5 (pos 0)))) gives false
-    ∷ validRule (conditioned always (when Equal (Constant MIN))) gives true
-    ∷ validRule (conditioned always (when Equal (Constant (pos 2147483648)))) gives false
-    ∷ validRule (conditioned always (when Equal (Activation 1 (negsuc 2147483648)))) gives false
+    ∷ valid_rule (conditioned (when Equal (Constant (pos 0))) always) gives true
+    ∷ valid_rule (conditioned (when Equal (Activation 1 (pos 0))) always) gives false
+    ∷ valid_rule (conditioned always (when Equal (Activation 1 (pos 0)))) gives true
+    ∷ valid_rule (conditioned always (when Equal (Activation 4 (pos 0)))) gives true
+    ∷ valid_rule (conditioned always (when Equal (Activation 0 (pos 0)))) gives false
+    ∷ valid_rule (conditioned always (when Equal (Activation 5 (pos 0)))) gives false
+    ∷ valid_rule (conditioned always (when Equal (Constant MIN))) gives true
+    ∷ valid_rule (conditioned always (when Equal (Constant (pos 2147483648)))) gives false
+    ∷ valid_rule (conditioned always (when Equal (Activation 1 (negsuc 2147483648)))) gives false
     -- on any readings, in either condition; readings 1 to 4; at most four comparisons
-    ∷ validRule (conditioned always (pair 1 2)) gives true
-    ∷ validRule (conditioned always (pair 1 1)) gives true
-    ∷ validRule (conditioned (pair 3 3) always) gives true
-    ∷ validRule (conditioned always (pair 0 1)) gives false
-    ∷ validRule (conditioned always (pair 1 5)) gives false
-    ∷ validRule (conditioned always (counted 4)) gives true
-    ∷ validRule (conditioned always (counted 5)) gives false
-    ∷ validRule (conditioned (counted 5) always) gives false
+    ∷ valid_rule (conditioned always (pair 1 2)) gives true
+    ∷ valid_rule (conditioned always (pair 1 1)) gives true
+    ∷ valid_rule (conditioned (pair 3 3) always) gives true
+    ∷ valid_rule (conditioned always (pair 0 1)) gives false
+    ∷ valid_rule (conditioned always (pair 1 5)) gives false
+    ∷ valid_rule (conditioned always (counted 4)) gives true
+    ∷ valid_rule (conditioned always (counted 5)) gives false
+    ∷ valid_rule (conditioned (counted 5) always) gives false
     -- under 15 and 16 the activities differ, under 13 to 16 there is no correlation
-    ∷ validRule (limited 12 1 1 0 Never) gives true
-    ∷ validRule (limited 13 1 1 0 Never) gives true
-    ∷ validRule (limited 14 1 1 0 Never) gives true
-    ∷ validRule (limited 15 1 1 0 Never) gives false
-    ∷ validRule (limited 16 1 1 0 Never) gives false
-    ∷ validRule (overall 13 (when Equal (Constant (pos 0))) always) gives true
-    ∷ validRule (overall 13 always (when Equal (Constant (pos 0)))) gives false
-    ∷ validRule (overall 14 always (when Equal (Constant (pos 0)))) gives false
-    ∷ validRule (overall 15 always (when Equal (Constant (pos 0)))) gives false
-    ∷ validRule (overall 16 always (when Equal (Constant (pos 0)))) gives false
+    ∷ valid_rule (limited 12 1 1 0 Never) gives true
+    ∷ valid_rule (limited 13 1 1 0 Never) gives true
+    ∷ valid_rule (limited 14 1 1 0 Never) gives true
+    ∷ valid_rule (limited 15 1 1 0 Never) gives false
+    ∷ valid_rule (limited 16 1 1 0 Never) gives false
+    ∷ valid_rule (overall 13 (when Equal (Constant (pos 0))) always) gives true
+    ∷ valid_rule (overall 13 always (when Equal (Constant (pos 0)))) gives false
+    ∷ valid_rule (overall 14 always (when Equal (Constant (pos 0)))) gives false
+    ∷ valid_rule (overall 15 always (when Equal (Constant (pos 0)))) gives false
+    ∷ valid_rule (overall 16 always (when Equal (Constant (pos 0)))) gives false
     -- slots past a count are not read
-    ∷ validTable (table 0 (limited 0 0 0 0 Never ∷ [])) gives true
-    ∷ validTable (table 1 (limited 1 1 1 0 Never ∷ limited 0 0 0 0 Never ∷ [])) gives true
-    ∷ validTable (table 2 (limited 1 1 1 0 Never ∷ limited 0 0 0 0 Never ∷ [])) gives false
-    ∷ validTable (table 17 []) gives false
+    ∷ valid_table (table 0 (limited 0 0 0 0 Never ∷ [])) gives true
+    ∷ valid_table (table 1 (limited 1 1 1 0 Never ∷ limited 0 0 0 0 Never ∷ [])) gives true
+    ∷ valid_table (table 2 (limited 1 1 1 0 Never ∷ limited 0 0 0 0 Never ∷ [])) gives false
+    ∷ valid_table (table 17 []) gives false
     -- times repeat, and do not fall
-    ∷ nonFalling (event 5 1 ∷ event 5 1 ∷ event 6 1 ∷ []) gives true
-    ∷ nonFalling (event 5 1 ∷ event 6 1 ∷ event 5 1 ∷ []) gives false
+    ∷ non_falling (event 5 1 ∷ event 5 1 ∷ event 6 1 ∷ []) gives true
+    ∷ non_falling (event 5 1 ∷ event 6 1 ∷ event 5 1 ∷ []) gives false
     ∷ continuation 5 [] gives true
     ∷ continuation 5 (event 5 1 ∷ event 5 2 ∷ []) gives true
     ∷ continuation 5 (event 4 1 ∷ []) gives false
@@ -125,9 +125,9 @@ limits =
 -- ---- refusals
 
 -- document 01's table and the cards: each cause has its number, and 9, 10, 11, 14 and 15 no line
-unfoldable pub withoutLine : List ℕ
-withoutLine = map number_of (WrongPhase ∷ NotFound ∷ InvalidRecord ∷ TallyOverflow ∷ BufferTooShort ∷ [])
+unfoldable pub without_line : List ℕ
+without_line = map number_of (WrongPhase ∷ NotFound ∷ InvalidRecord ∷ TallyOverflow ∷ BufferTooShort ∷ [])
 
-unfoldable pub withLine : List ℕ
-withLine =
+unfoldable pub with_line : List ℕ
+with_line =
     map number_of (FieldCount ∷ NumberForm ∷ OutOfRange ∷ ComparisonForm ∷ EmptyWindow ∷ TimeFalls ∷ TooMany ∷ NoLineEnd ∷ NoFile ∷ TemplateMismatch ∷ TooManyComparisons ∷ [])

@@ -12,9 +12,9 @@ any p [] = false
 any p (x ∷ xs) = p x || any p xs
 
 -- no position strictly between low and high passes
-unfoldable pub noneBetween : (ℕ → Bool) → ℕ → ℕ → Bool
-noneBetween p low zero = true
-noneBetween p low (suc h) = noneBetween p low h && not (ltb low h && p h)
+unfoldable pub none_between : (ℕ → Bool) → ℕ → ℕ → Bool
+none_between p low zero = true
+none_between p low (suc h) = none_between p low h && not (ltb low h && p h)
 
 -- a position that was found, or else k
 abbrev pub or_else : ℕ → ℕ → ℕ
@@ -27,22 +27,22 @@ found zero = false
 found (suc j) = true
 
 -- the earliest of the positions 1 to n that passes, or 0
-unfoldable pub firstUpTo : (ℕ → Bool) → ℕ → ℕ
-firstUpTo p zero = 0
-firstUpTo p (suc n) = or_else (firstUpTo p n) (cond (p (suc n)) (suc n) 0)
+unfoldable pub first_up_to : (ℕ → Bool) → ℕ → ℕ
+first_up_to p zero = 0
+first_up_to p (suc n) = or_else (first_up_to p n) (cond (p (suc n)) (suc n) 0)
 
 -- the latest of them, or 0
-unfoldable pub lastUpTo : (ℕ → Bool) → ℕ → ℕ
-lastUpTo p zero = 0
-lastUpTo p (suc n) = cond (p (suc n)) (suc n) (lastUpTo p n)
+unfoldable pub last_up_to : (ℕ → Bool) → ℕ → ℕ
+last_up_to p zero = 0
+last_up_to p (suc n) = cond (p (suc n)) (suc n) (last_up_to p n)
 
 -- of the positions past i, up to n, the first that passes, or 0
-unfoldable pub firstPast : (ℕ → Bool) → ℕ → ℕ → ℕ
-firstPast p i n = firstUpTo (λ j. ltb i j && p j) n
+unfoldable pub first_past : (ℕ → Bool) → ℕ → ℕ → ℕ
+first_past p i n = first_up_to (λ j. ltb i j && p j) n
 
 -- of the positions 1 to n that pass, the latest up to i; failing that, the first past i; or 0
 unfoldable pub nearest : (ℕ → Bool) → ℕ → ℕ → ℕ
-nearest p i n = or_else (lastUpTo p (min i n)) (firstPast p i n)
+nearest p i n = or_else (last_up_to p (min i n)) (first_past p i n)
 
 -- ---- over the places of a list, which count from 0
 
@@ -56,11 +56,11 @@ bit true = 1
 bit false = 0
 
 -- how many places below n pass
-unfoldable pub countBelow : (ℕ → Bool) → ℕ → ℕ
-countBelow p zero = 0
-countBelow p (suc n) = countBelow p n + bit (p n)
+unfoldable pub count_below : (ℕ → Bool) → ℕ → ℕ
+count_below p zero = 0
+count_below p (suc n) = count_below p n + bit (p n)
 
 -- each element x at place k becomes f k x; the first place is k
-unfoldable pub mapFrom : {A : Type 0} → (ℕ → A → A) → ℕ → List A → List A
-mapFrom f k [] = []
-mapFrom f k (x ∷ xs) = f k x ∷ mapFrom f (suc k) xs
+unfoldable pub map_from : {A : Type 0} → (ℕ → A → A) → ℕ → List A → List A
+map_from f k [] = []
+map_from f k (x ∷ xs) = f k x ∷ map_from f (suc k) xs

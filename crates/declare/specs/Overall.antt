@@ -1,21 +1,21 @@
 -- The templates about the cycle as such: existence 13, absence 14, choice 15, exclusive choice 16.
 use Rattle.std.specs.Prelude.{Bool, true, false, not, cond, ◌&&◌, ◌||◌, ℕ, leb, eqb}
 use Rattle.declare.specs.Types.{Overall, Existence, Absence, Choice, ExclusiveChoice}
-use Rattle.declare.specs.Limits.{lastTemplate, firstOverall}
+use Rattle.declare.specs.Limits.{last_template, first_overall}
 
-unfoldable pub isOverall : ℕ → Bool
-isOverall code = leb firstOverall code && leb code lastTemplate
+unfoldable pub is_overall : ℕ → Bool
+is_overall code = leb first_overall code && leb code last_template
 
 -- of such a code
-unfoldable pub overallOf : ℕ → Overall
-overallOf code = cond (eqb code 13) Existence (cond (eqb code 14) Absence (cond (eqb code 15) Choice ExclusiveChoice))
+unfoldable pub overall_of : ℕ → Overall
+overall_of code = cond (eqb code 13) Existence (cond (eqb code 14) Absence (cond (eqb code 15) Choice ExclusiveChoice))
 
 -- "for 13 and 14 the target activity is read, kept and not judged"
-abbrev pub countsTarget : Overall → Bool
-countsTarget Existence = false
-countsTarget Absence = false
-countsTarget Choice = true
-countsTarget ExclusiveChoice = true
+abbrev pub counts_target : Overall → Bool
+counts_target Existence = false
+counts_target Absence = false
+counts_target Choice = true
+counts_target ExclusiveChoice = true
 
 -- what the template's formula says, by whether the activation activity and the target activity
 -- occur

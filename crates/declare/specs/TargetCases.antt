@@ -6,12 +6,12 @@ use Rattle.declare.specs.EdgeCycles.{Case, ◌is◌, always, window, rule, event
 use Rattle.declare.specs.TemplateCases.{plain}
 
 -- events with these activities, one each millisecond
-unfoldable pub eventsFrom : ℕ → List ℕ → List Event
-eventsFrom time [] = []
-eventsFrom time (a ∷ activities) = event time a ∷ eventsFrom (suc time) activities
+unfoldable pub events_from : ℕ → List ℕ → List Event
+events_from time [] = []
+events_from time (a ∷ activities) = event time a ∷ events_from (suc time) activities
 
 abbrev pub events : List ℕ → List Event
-events activities = eventsFrom 0 activities
+events activities = events_from 0 activities
 
 -- activation and target are the same activity
 abbrev pub itself : ℕ → Rule

@@ -29,22 +29,22 @@ pub record Past {A : Type 0} (xs ys : List A) (p : ℕ) (x : A) : Type 0 where
   pub stands : At ys after x
 
 -- in the first list, or past it in the second
-pub at-either : {A : Type 0} {ys : List A} {p : ℕ} {x : A} (xs : List A) → At (xs ++ ys) p x → At xs p x ⊎ Past xs ys p x
-at-either {p = p} [] a = inr (record { after = p; place = sym (zero-add p); stands = a })
-at-either (y ∷ xs) here = inl here
-at-either {ys = ys} {x = x} (y ∷ xs) (there {p = p} a) = go (at-either xs a)
+pub at_either : {A : Type 0} {ys : List A} {p : ℕ} {x : A} (xs : List A) → At (xs ++ ys) p x → At xs p x ⊎ Past xs ys p x
+at_either {p = p} [] a = inr (record { after = p; place = sym (zero-add p); stands = a })
+at_either (y ∷ xs) here = inl here
+at_either {ys = ys} {x = x} (y ∷ xs) (there {p = p} a) = go (at_either xs a)
   where
     go : At xs p x ⊎ Past xs ys p x → At (y ∷ xs) (suc p) x ⊎ Past (y ∷ xs) ys (suc p) x
     go (inl b) = inl (there b)
     go (inr b) = inr (record { after = b.after; place = (let e = b.place in omega arith); stands = b.stands })
 
-pub at-below : {A : Type 0} {xs : List A} {p : ℕ} {x : A} → At xs p x → p < length xs
-at-below here = omega arith
-at-below (there a) = let h = at-below a in omega arith
+pub at_below : {A : Type 0} {xs : List A} {p : ℕ} {x : A} → At xs p x → p < length xs
+at_below here = omega arith
+at_below (there a) = let h = at_below a in omega arith
 
-pub at-is : {A : Type 0} {xs : List A} {p : ℕ} {x : A} (d : A) → At xs p x → get_or xs p d ≡ x
-at-is d here = refl
-at-is d (there a) = at-is d a
+pub at_is : {A : Type 0} {xs : List A} {p : ℕ} {x : A} (d : A) → At xs p x → get_or xs p d ≡ x
+at_is d here = refl
+at_is d (there a) = at_is d a
 
 pub at_some : {A : Type 0} (xs : List A) (p : ℕ) → p < length xs → (x : A) × At xs p x
 at_some [] p h = absurd (omega arith)
@@ -56,11 +56,11 @@ at_map f here = here
 at_map f (there a) = there (at_map f a)
 
 pub at_none : {A : Type 0} {p : ℕ} {x : A} → At [] p x → ⊥
-at_none a = let h = at-below a in omega arith
+at_none a = let h = at_below a in omega arith
 
-pub at-single : {A : Type 0} {x y : A} {p : ℕ} → At (x ∷ []) p y → x ≡ y
-at-single here = refl
-at-single (there a) = absurd (at_none a)
+pub at_single : {A : Type 0} {x y : A} {p : ℕ} → At (x ∷ []) p y → x ≡ y
+at_single here = refl
+at_single (there a) = absurd (at_none a)
 
 pub same_first : {A : Type 0} {x y : A} → x ∷ [] ≡ y ∷ [] → x ≡ y
 same_first e = cc

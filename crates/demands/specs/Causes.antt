@@ -18,5 +18,5 @@ First [] n = ⊥
 First (c ∷ later) n =
     ((c.holds ≡ true) × (number_of c.refusal ≡ n)) ⊎ ((c.holds ≡ false) × First later n)
 
-unfoldable pub noneHolds : List Cause → Bool
-noneHolds causes = all (λ c. not c.holds) causes
+unfoldable pub none_holds : List Cause → Bool
+none_holds causes = all (λ c. not c.holds) causes

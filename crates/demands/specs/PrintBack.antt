@@ -3,10 +3,10 @@
 -- `ReadsRules` and `ReadsCycle`, whatever they are handed.
 use Rattle.std.specs.Prelude.{◌≡◌, true, List, ◌++◌, ℕ, ◌≤◌, length, take, drop}
 use Rattle.declare.specs.declared.Table.{Table}
-use Rattle.declare.specs.Slots.{eventSlots}
+use Rattle.declare.specs.Slots.{event_slots}
 use Rattle.declare.specs.Answers.{refused}
 use Rattle.run.specs.declared.Run.{Run}
-use Rattle.run.specs.Records.{eventsOf, validRun}
+use Rattle.run.specs.Records.{events_of, valid_run}
 use Rattle.line.specs.declared.Outcome.TheVariants.{Accepted}
 use Rattle.cycle_text.specs.declared.CycleRead.{CycleRead}
 use Rattle.cycle_text.specs.Reads.{ReadsCycle}
@@ -15,8 +15,8 @@ use Rattle.rule_text.specs.Written.{rewritten}
 use Rattle.rule_text.specs.Reads.{ReadsRules}
 use Rattle.buffer.specs.declared.WriteAnswer.{WriteAnswer}
 use Rattle.buffer.specs.declared.WriteAnswer.TheVariants.{Written}
-use Rattle.writer.specs.Writer.{rulesBytes, cycleBytes, writeRulesOf, WritesRules, writeCycleOf, WritesCycle}
-use Rattle.notebook.specs.Notebook.{readAs, notebookOf}
+use Rattle.writer.specs.Writer.{rules_bytes, cycle_bytes, write_rules_of, WritesRules, write_cycle_of, WritesCycle}
+use Rattle.notebook.specs.Notebook.{read_as, notebook_of}
 
 -- "with the length returned and the bytes beyond it untouched"
 pub record WrittenWhole (text before after : List ℕ) (answer : WriteAnswer) : Type 0 where
@@ -31,33 +31,33 @@ ComesOut text Contract =
     → Contract before after answer
     → WrittenWhole text before after answer
 
--- proved as `print-back`
+-- proved as `print_back`
 pub record PrintBack : Type 0 where
   -- "a written text reads back as the same records", equal in the slots that are in use: the
   -- first n bytes of the buffer, n the length returned
-  pub rules-read : (t : Table) (before after : List ℕ) (n : ℕ) (read : RulesRead)
+  pub rules_read : (t : Table) (before after : List ℕ) (n : ℕ) (read : RulesRead)
       → WritesRules t before after (Written n)
       → ReadsRules (take n after) read
       → (read.outcome ≡ Accepted) × (read.table ≡ rewritten t)
-  pub cycle-read : (r : Run) (before after : List ℕ) (n : ℕ) (read : CycleRead)
+  pub cycle_read : (r : Run) (before after : List ℕ) (n : ℕ) (read : CycleRead)
       → WritesCycle r before after (Written n)
       → ReadsCycle (take n after) read
-      → (read.outcome ≡ Accepted) × (read.count ≡ length (eventsOf r)) × (read.events ≡ eventSlots (eventsOf r))
+      → (read.outcome ≡ Accepted) × (read.count ≡ length (events_of r)) × (read.events ≡ event_slots (events_of r))
   -- a buffer of so many bytes is never too short
-  pub rules-room : (t : Table) (buffer : List ℕ) → rulesBytes ≤ length buffer → writeRulesOf t buffer ≡ refused 15 → ⊥
-  pub cycle-room : (r : Run) (buffer : List ℕ) → cycleBytes ≤ length buffer → writeCycleOf r buffer ≡ refused 15 → ⊥
+  pub rules_room : (t : Table) (buffer : List ℕ) → rules_bytes ≤ length buffer → write_rules_of t buffer ≡ refused 15 → ⊥
+  pub cycle_room : (r : Run) (buffer : List ℕ) → cycle_bytes ≤ length buffer → write_cycle_of r buffer ≡ refused 15 → ⊥
   -- "an accepted text comes out again byte for byte": of the table read; of every valid run with
   -- the events read; and both texts of the notebook's run
-  pub rules-again : (text : List ℕ) (read : RulesRead)
+  pub rules_again : (text : List ℕ) (read : RulesRead)
       → ReadsRules text read
       → read.outcome ≡ Accepted
       → ComesOut text (WritesRules read.table)
-  pub cycle-again : (text : List ℕ) (read : CycleRead) (r : Run)
+  pub cycle_again : (text : List ℕ) (read : CycleRead) (r : Run)
       → ReadsCycle text read
       → read.outcome ≡ Accepted
-      → validRun r ≡ true
-      → eventsOf r ≡ take read.count read.events
+      → valid_run r ≡ true
+      → events_of r ≡ take read.count read.events
       → ComesOut text (WritesCycle r)
-  pub notebook-again : (rules cycle : List ℕ) (r : Run)
-      → notebookOf rules cycle ≡ readAs r
+  pub notebook_again : (rules cycle : List ℕ) (r : Run)
+      → notebook_of rules cycle ≡ read_as r
       → ComesOut rules (WritesRules r.table) × ComesOut cycle (WritesCycle r)

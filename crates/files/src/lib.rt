@@ -1,9 +1,9 @@
 // Files and standard output, for the programs that print.
 ghost use Rattle.std.specs.Prelude.{◌≡◌, true, length};
 ghost use Rattle.io.specs.Counts.{IsPrefixLen};
-ghost use Rattle.line.specs.Texts.{writtenLine};
+ghost use Rattle.line.specs.Texts.{written_line};
 ghost use Rattle.buffer.specs.Puts.{Puts};
-ghost use Rattle.printing.specs.Lines.{refusedLine, lineFields};
+ghost use Rattle.printing.specs.Lines.{refused_line, line_fields};
 
 use declare::{Refusal, number_of};
 use printing::refused::put_refused;
@@ -13,7 +13,7 @@ pub const FILE_BYTES: usize = 32768;
 
 // The first `length` bytes of the buffer are the file's, and `whole` says whether that is all of
 // the file.
-#[derive(Drop)]
+#[derive(Clone, Copy)]
 pub struct FileRead {
     pub whole: bool,
     pub length: usize,
@@ -60,7 +60,7 @@ pub fn print(bytes: &[u8]) -> bool
 
 // The line of a file that is not read whole: 13, and line 0.
 fn put_unread(out: &mut [u8], word: &[u8]) -> usize
-    ensures { Puts (writtenLine lineFields (refusedLine word.now 13 0)) out.old 0 out.new result }
+    ensures { Puts (written_line line_fields (refused_line word.now 13 0)) out.old 0 out.new result }
 {
     put_refused(out, word, number_of(Refusal::NoFile), 0)
 }

@@ -6,8 +6,8 @@ use Rattle.declare.specs.declared.End.TheVariants.{Never}
 use Rattle.declare.specs.declared.Window.{Window}
 use Rattle.declare.specs.declared.Rule.{Rule}
 use Rattle.declare.specs.Conditions.{met}
-use Rattle.declare.specs.Events.{eventAt}
-use Rattle.declare.specs.Suits.{occurs, isActivation, within, between, correlates}
+use Rattle.declare.specs.Events.{event_at}
+use Rattle.declare.specs.Suits.{occurs, is_activation, within, between, correlates}
 
 -- [0, ∞), of an operator without an interval
 abbrev pub always : Window
@@ -35,27 +35,27 @@ pub data Formula : Type 0 where
   Since : Window → Formula → Formula → Formula
 
 -- the timestamp τ of a position
-unfoldable pub timeAt : List Event → ℕ → ℕ
-timeAt es i = (eventAt es i).time
+unfoldable pub time_at : List Event → ℕ → ℕ
+time_at es i = (event_at es i).time
 
 -- Definition 3, for a rule, a cycle, and the activation judged (the valuation of x), at a position
 -- from 1 to the number of events.
 -- U's k is printed as k ∈ [j, i), which is empty; it is read as [i, j).
 unfoldable pub Holds : Rule → List Event → Event → Formula → ℕ → Type 0
-Holds r es a Activation i = isActivation r (eventAt es i) ≡ true
-Holds r es a BoundActivation i = (eqb (eventAt es i).activity r.activation && met r.condition a a) ≡ true
-Holds r es a (Occurs k) i = occurs r k (eventAt es i) ≡ true
-Holds r es a Target i = correlates r a (eventAt es i) ≡ true
-Holds r es a (Within I) i = within I (between a.time (timeAt es i)) ≡ true
+Holds r es a Activation i = is_activation r (event_at es i) ≡ true
+Holds r es a BoundActivation i = (eqb (event_at es i).activity r.activation && met r.condition a a) ≡ true
+Holds r es a (Occurs k) i = occurs r k (event_at es i) ≡ true
+Holds r es a Target i = correlates r a (event_at es i) ≡ true
+Holds r es a (Within I) i = within I (between a.time (time_at es i)) ≡ true
 Holds r es a (Not φ) i = Holds r es a φ i → ⊥
 Holds r es a (And φ ψ) i = Holds r es a φ i × Holds r es a ψ i
-Holds r es a (Next I φ) i = (i < length es) × (within I (timeAt es (i + 1) - timeAt es i) ≡ true) × Holds r es a φ (i + 1)
-Holds r es a (Previous I φ) i = (1 < i) × (within I (timeAt es i - timeAt es (i - 1)) ≡ true) × Holds r es a φ (i - 1)
+Holds r es a (Next I φ) i = (i < length es) × (within I (time_at es (i + 1) - time_at es i) ≡ true) × Holds r es a φ (i + 1)
+Holds r es a (Previous I φ) i = (1 < i) × (within I (time_at es i - time_at es (i - 1)) ≡ true) × Holds r es a φ (i - 1)
 Holds r es a (Until I φ ψ) i =
-    (j : ℕ) × (i ≤ j) × (j ≤ length es) × (within I (timeAt es j - timeAt es i) ≡ true) × Holds r es a ψ j
+    (j : ℕ) × (i ≤ j) × (j ≤ length es) × (within I (time_at es j - time_at es i) ≡ true) × Holds r es a ψ j
     × ((k : ℕ) → i ≤ k → k < j → Holds r es a φ k)
 Holds r es a (Since I φ ψ) i =
-    (j : ℕ) × (1 ≤ j) × (j ≤ i) × (within I (timeAt es i - timeAt es j) ≡ true) × Holds r es a ψ j
+    (j : ℕ) × (1 ≤ j) × (j ≤ i) × (within I (time_at es i - time_at es j) ≡ true) × Holds r es a ψ j
     × ((k : ℕ) → j + 1 ≤ k → k < i + 1 → Holds r es a φ k)
 
 -- ---- derived operators

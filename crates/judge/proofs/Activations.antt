@@ -9,127 +9,127 @@ use lib.Dec.{ltb, eqb}
 use lib.ListN.{length, get_or}
 use Rattle.declare.specs.declared.Event.{Event}
 use Rattle.declare.specs.declared.Rule.{Rule}
-use Rattle.declare.specs.Limits.{mostEvents}
-use Rattle.declare.specs.Events.{noEvent}
-use Rattle.declare.specs.Rules.{noRule}
+use Rattle.declare.specs.Limits.{most_events}
+use Rattle.declare.specs.Events.{no_event}
+use Rattle.declare.specs.Rules.{no_rule}
 use Rattle.declare.specs.Conditions.{met}
-use Rattle.declare.specs.Overall.{isOverall}
-use Rattle.declare.specs.Suits.{occurs, isActivation}
+use Rattle.declare.specs.Overall.{is_overall}
+use Rattle.declare.specs.Suits.{occurs, is_activation}
 use Rattle.declare.proofs.Booleans.{and_right}
-use Rattle.standings.specs.Places.{inUse}
+use Rattle.standings.specs.Places.{in_use}
 use lib.IntN.{ℤ}
 use Rattle.judge.specs.Columns.{ShowsActivities}
-use Rattle.judge.specs.Flags.{flagged, flagAt, NextPlace}
+use Rattle.judge.specs.Flags.{flagged, flag_at, NextPlace}
 use Rattle.judge.specs.Ready.{Ready}
-use Rattle.standings.proofs.Places.{place-in-use}
-use Rattle.judge.proofs.Judged.{es, activation-here}
+use Rattle.standings.proofs.Places.{place_in_use}
+use Rattle.judge.proofs.Judged.{es, activation_here}
 
 -- a flag by its place
-pub flag_at : (row : List Bool) (q : ℕ) → flagAt row (q + 1) ≡ get_or row q false
-unfolding flagAt
-flag_at row q =
+pub flag_at_lem : (row : List Bool) (q : ℕ) → flag_at row (q + 1) ≡ get_or row q false
+unfolding flag_at
+flag_at_lem row q =
     let z : q + 1 - 1 ≡ q = omega arith in
     ap (λ (k : ℕ). get_or row k false) z
 
 -- ---- the flag at a place
 
 module _ (rules : List Rule) (count : ℕ) (es : List Event) (n j : ℕ) (x : Bool) where
-  pub flagged-used : inUse count n j ≡ true → flagged rules count es n j x ≡ isActivation (get_or rules (j / mostEvents) noRule) (get_or es (j % mostEvents) noEvent)
+  pub flagged_used : in_use count n j ≡ true → flagged rules count es n j x ≡ is_activation (get_or rules (j / most_events) no_rule) (get_or es (j % most_events) no_event)
   unfolding flagged
-  flagged-used u = rw u
+  flagged_used u = rw u
 
-  pub flagged-unused : inUse count n j ≡ false → flagged rules count es n j x ≡ x
+  pub flagged_unused : in_use count n j ≡ false → flagged rules count es n j x ≡ x
   unfolding flagged
-  flagged-unused u = rw u
+  flagged_unused u = rw u
 
 -- an event that has the activity of a rule that is not about the cycle
-of-activity : (r : Rule) (e : Event) → isOverall r.code ≡ false → eqb e.activity r.activation ≡ true → met r.condition e e ≡ isActivation r e
-unfolding isActivation occurs
-of-activity r e o h = rw (o, h)
+of_activity : (r : Rule) (e : Event) → is_overall r.code ≡ false → eqb e.activity r.activation ≡ true → met r.condition e e ≡ is_activation r e
+unfolding is_activation occurs
+of_activity r e o h = rw (o, h)
 
-other-activity : (r : Rule) (e : Event) → (isOverall r.code ≡ false → eqb e.activity r.activation ≡ false) → isActivation r e ≡ false
-unfolding isActivation occurs
-other-activity r e f = go (isOverall r.code) refl
+other_activity : (r : Rule) (e : Event) → (is_overall r.code ≡ false → eqb e.activity r.activation ≡ false) → is_activation r e ≡ false
+unfolding is_activation occurs
+other_activity r e f = go (is_overall r.code) refl
   where
-    go : (o : Bool) → isOverall r.code ≡ o → (not o && (eqb e.activity r.activation && met r.condition e e)) ≡ false
+    go : (o : Bool) → is_overall r.code ≡ o → (not o && (eqb e.activity r.activation && met r.condition e e)) ≡ false
     go true q = refl
     go false q = rw (f q)
 
 module _ (rules : List Rule) (count : ℕ) (es : List Event) (n : ℕ) {activities : List ℕ} (shown : ShowsActivities activities es n) where
-  not-flagged : (i : ℕ) (used : Bool) → (used ≡ true → isActivation (get_or rules (i / mostEvents) noRule) (get_or es (i % mostEvents) noEvent) ≡ false) → cond used (isActivation (get_or rules (i / mostEvents) noRule) (get_or es (i % mostEvents) noEvent)) false ≡ false
-  not-flagged i true h = h refl
-  not-flagged i false h = refl
+  not_flagged : (i : ℕ) (used : Bool) → (used ≡ true → is_activation (get_or rules (i / most_events) no_rule) (get_or es (i % most_events) no_event) ≡ false) → cond used (is_activation (get_or rules (i / most_events) no_rule) (get_or es (i % most_events) no_event)) false ≡ false
+  not_flagged i true h = h refl
+  not_flagged i false h = refl
 
   module _ (j : ℕ) where
     rule : Rule
-    rule = get_or rules (j / mostEvents) noRule
+    rule = get_or rules (j / most_events) no_rule
 
     -- no flag at places of the row where no event is an activation
-    unflagged : (i : ℕ) → j ≤ i → i < j + (mostEvents - j % mostEvents) → (i % mostEvents < n → isActivation rule (get_or es (i % mostEvents) noEvent) ≡ false) → flagged rules count es n i false ≡ false
-    unfolding flagged inUse rule
-    unflagged i a b f = not-flagged i (inUse count n i) none
+    unflagged : (i : ℕ) → j ≤ i → i < j + (most_events - j % most_events) → (i % most_events < n → is_activation rule (get_or es (i % most_events) no_event) ≡ false) → flagged rules count es n i false ≡ false
+    unfolding flagged in_use rule
+    unflagged i a b f = not_flagged i (in_use count n i) none
       where
-        row : i / mostEvents ≡ j / mostEvents
+        row : i / most_events ≡ j / most_events
         row = omega arith
 
-        none : inUse count n i ≡ true → isActivation (get_or rules (i / mostEvents) noRule) (get_or es (i % mostEvents) noEvent) ≡ false
-        none u = rw row (f (ltb-true (i % mostEvents) n (and_right (ltb (i / mostEvents) count) (ltb (i % mostEvents) n) u)))
+        none : in_use count n i ≡ true → is_activation (get_or rules (i / most_events) no_rule) (get_or es (i % most_events) no_event) ≡ false
+        none u = rw row (f (ltb-true (i % most_events) n (and_right (ltb (i / most_events) count) (ltb (i % most_events) n) u)))
 
     -- none in the row of a rule about the cycle
-    pub row-unflagged : (i : ℕ) → isOverall (get_or rules (j / mostEvents) noRule).code ≡ true → j ≤ i → i < j + (mostEvents - j % mostEvents) → flagged rules count es n i false ≡ false
+    pub row_unflagged : (i : ℕ) → is_overall (get_or rules (j / most_events) no_rule).code ≡ true → j ≤ i → i < j + (most_events - j % most_events) → flagged rules count es n i false ≡ false
     unfolding rule
-    row-unflagged i o a b = unflagged i a b (λ l. other-activity rule (get_or es (i % mostEvents) noEvent) (λ q. absurd (true≢false (sym o ∙ q))))
+    row_unflagged i o a b = unflagged i a b (λ l. other_activity rule (get_or es (i % most_events) no_event) (λ q. absurd (true≢false (sym o ∙ q))))
 
     -- q is the next place of the rule's activity
     abbrev pub NextOf : ℕ → Type 0
-    NextOf q = NextPlace activities (get_or rules (j / mostEvents) noRule).activation (j % mostEvents) n q
+    NextOf q = NextPlace activities (get_or rules (j / most_events) no_rule).activation (j % most_events) n q
 
     -- none at the places that are passed over, up to the next of the activity or to the end of the
     -- row
-    pub passed_over : (q i : ℕ) → NextOf q → j ≤ i → i < j + (mostEvents - j % mostEvents) → (i % mostEvents < n → i % mostEvents < q) → flagged rules count es n i false ≡ false
+    pub passed_over : (q i : ℕ) → NextOf q → j ≤ i → i < j + (most_events - j % most_events) → (i % most_events < n → i % most_events < q) → flagged rules count es n i false ≡ false
     unfolding rule
     passed_over q i next a b c =
         unflagged i a b
-        (λ low. other-activity rule (get_or es (i % mostEvents) noEvent) (λ _. rw (← shown.activity (i % mostEvents) low) (next.passed (i % mostEvents) (omega arith) (c low))))
+        (λ low. other_activity rule (get_or es (i % most_events) no_event) (λ _. rw (← shown.activity (i % most_events) low) (next.passed (i % most_events) (omega arith) (c low))))
 
     -- and at the next place of the activity the flag that the condition gives
-    pub flagged-next : (q : ℕ) (x : Bool) {v : Bool} → isOverall (get_or rules (j / mostEvents) noRule).code ≡ false → NextOf q → q < n → n ≤ mostEvents → j / mostEvents < count → v ≡ met (get_or rules (j / mostEvents) noRule).condition (get_or es ((j + (q - j % mostEvents)) % mostEvents) noEvent) (get_or es ((j + (q - j % mostEvents)) % mostEvents) noEvent) → v ≡ flagged rules count es n (j + (q - j % mostEvents)) x
+    pub flagged_next : (q : ℕ) (x : Bool) {v : Bool} → is_overall (get_or rules (j / most_events) no_rule).code ≡ false → NextOf q → q < n → n ≤ most_events → j / most_events < count → v ≡ met (get_or rules (j / most_events) no_rule).condition (get_or es ((j + (q - j % most_events)) % most_events) no_event) (get_or es ((j + (q - j % most_events)) % most_events) no_event) → v ≡ flagged rules count es n (j + (q - j % most_events)) x
     unfolding rule
-    flagged-next q x o next low high counted e =
-        let past : j % mostEvents ≤ q = (next.found low).0 in
-        let line : (j + (q - j % mostEvents)) / mostEvents ≡ j / mostEvents = omega arith in
-        let place : (j + (q - j % mostEvents)) % mostEvents ≡ q = omega arith in
-        let own : eqb (get_or es q noEvent).activity rule.activation ≡ true = rw (← shown.activity q low) (next.found low).1 in
-        let used : inUse count n (j + (q - j % mostEvents)) ≡ true = place-in-use count n (j + (q - j % mostEvents)) (omega arith) (omega arith) in
-        rw place at e ∙ of-activity rule (get_or es q noEvent) o own
-        ∙ sym (flagged-used rules count es n (j + (q - j % mostEvents)) x used ∙ ap₂ (λ (r k : ℕ). isActivation (get_or rules r noRule) (get_or es k noEvent)) line place)
+    flagged_next q x o next low high counted e =
+        let past : j % most_events ≤ q = (next.found low).0 in
+        let line : (j + (q - j % most_events)) / most_events ≡ j / most_events = omega arith in
+        let place : (j + (q - j % most_events)) % most_events ≡ q = omega arith in
+        let own : eqb (get_or es q no_event).activity rule.activation ≡ true = rw (← shown.activity q low) (next.found low).1 in
+        let used : in_use count n (j + (q - j % most_events)) ≡ true = place_in_use count n (j + (q - j % most_events)) (omega arith) (omega arith) in
+        rw place at e ∙ of_activity rule (get_or es q no_event) o own
+        ∙ sym (flagged_used rules count es n (j + (q - j % most_events)) x used ∙ ap₂ (λ (r k : ℕ). is_activation (get_or rules r no_rule) (get_or es k no_event)) line place)
 
 -- ---- once a row
 
 -- past its beginning a row is not that of a rule about the cycle
 abbrev pub RowKnown : List Rule → ℕ → Type 0
-RowKnown rules j = 0 < j % mostEvents → isOverall (get_or rules (j / mostEvents) noRule).code ≡ false
+RowKnown rules j = 0 < j % most_events → is_overall (get_or rules (j / most_events) no_rule).code ≡ false
 
 -- nor at its beginning, where it was asked
-pub row-asked : (rules : List Rule) (j : ℕ) → RowKnown rules j → (eqb (j % mostEvents) 0 && isOverall (get_or rules (j / mostEvents) noRule).code) ≡ false → isOverall (get_or rules (j / mostEvents) noRule).code ≡ false
-row-asked rules j known asked = go (eqb (j % mostEvents) 0) refl asked
+pub row_asked : (rules : List Rule) (j : ℕ) → RowKnown rules j → (eqb (j % most_events) 0 && is_overall (get_or rules (j / most_events) no_rule).code) ≡ false → is_overall (get_or rules (j / most_events) no_rule).code ≡ false
+row_asked rules j known asked = go (eqb (j % most_events) 0) refl asked
   where
-    go : (z : Bool) → eqb (j % mostEvents) 0 ≡ z → (z && isOverall (get_or rules (j / mostEvents) noRule).code) ≡ false → isOverall (get_or rules (j / mostEvents) noRule).code ≡ false
+    go : (z : Bool) → eqb (j % most_events) 0 ≡ z → (z && is_overall (get_or rules (j / most_events) no_rule).code) ≡ false → is_overall (get_or rules (j / most_events) no_rule).code ≡ false
     go true e h = h
-    go false e h = known (omega (arith, eqb-false (j % mostEvents) 0 e))
+    go false e h = known (omega (arith, eqb-false (j % most_events) 0 e))
 
 -- the next place is of the same row, or begins one
-pub row_next : (rules : List Rule) (j i : ℕ) → isOverall (get_or rules (j / mostEvents) noRule).code ≡ false → j < i → i ≤ j + (mostEvents - j % mostEvents) → RowKnown rules i
+pub row_next : (rules : List Rule) (j i : ℕ) → is_overall (get_or rules (j / most_events) no_rule).code ≡ false → j < i → i ≤ j + (most_events - j % most_events) → RowKnown rules i
 row_next rules j i o a b l =
-    let row : i / mostEvents ≡ j / mostEvents = omega arith in
+    let row : i / most_events ≡ j / most_events = omega arith in
     rw row o
 
-pub row-begins : (rules : List Rule) (j : ℕ) → RowKnown rules (j + (mostEvents - j % mostEvents))
-row-begins rules j l = absurd (omega arith)
+pub row_begins : (rules : List Rule) (j : ℕ) → RowKnown rules (j + (most_events - j % most_events))
+row_begins rules j l = absurd (omega arith)
 
 -- the flag of a place tells whether its event is an activation
-pub flag-tells : {times activities : List ℕ} {rs : List ℤ} {row : List Bool} {r : Rule} {p : ℕ} {act : Event} → Ready times activities rs row r p act → isActivation r act ≡ get_or row p false
+pub flag_tells : {times activities : List ℕ} {rs : List ℤ} {row : List Bool} {r : Rule} {p : ℕ} {act : Event} → Ready times activities rs row r p act → is_activation r act ≡ get_or row p false
 unfolding es
-flag-tells {row = row} {p = p} ready =
+flag_tells {row = row} {p = p} ready =
     let l : p < length row = ready.low in
-    sym (activation-here ready) ∙ sym (ready.flagging (p + 1) (omega arith) (omega arith)) ∙ flag_at row p
+    sym (activation_here ready) ∙ sym (ready.flagging (p + 1) (omega arith) (omega arith)) ∙ flag_at_lem row p

@@ -1,10 +1,10 @@
 // All standings of a run at its events.
 ghost use Rattle.std.specs.Prelude.{◌≡◌, ◌+◌, min, length};
-ghost use Rattle.declare.specs.Limits.{mostEvents};
+ghost use Rattle.declare.specs.Limits.{most_events};
 ghost use Rattle.declare.specs.Steps.{carried};
-ghost use Rattle.standings.specs.Totals.{rowTotals};
-ghost use Rattle.judge.specs.Cells.{judged, judgedCells};
-ghost use Rattle.judge.specs.Columns.{eventsIn};
+ghost use Rattle.standings.specs.Totals.{row_totals};
+ghost use Rattle.judge.specs.Cells.{judged, judged_cells};
+ghost use Rattle.judge.specs.Columns.{events_in};
 ghost use Rattle.judge.specs.Ready.{Ready};
 
 use crate::columns::{NUMBERS, columns_of};
@@ -37,7 +37,7 @@ fn judge<'a>(
     s: Standing,
 ) -> Standing
     requires { Ready times.now activities.now numbers.now row.now rule p act }
-    ensures { result ≡ carried s (judged running rule (eventsIn times.now activities.now numbers.now (length row.now)) horizon (p + 1)) }
+    ensures { result ≡ carried s (judged running rule (events_in times.now activities.now numbers.now (length row.now)) horizon (p + 1)) }
 {
     if is_decided(s) {
         return s;
@@ -79,7 +79,7 @@ pub fn judge_cells(
     mut cells: [Cell; PLACES],
     mut totals: [Totals; RULES],
 ) -> CountedCells
-    ensures { (result.cells ≡ judgedCells running table events n horizon cells) × (result.totals ≡ rowTotals table.count (min n mostEvents) result.cells totals) }
+    ensures { (result.cells ≡ judged_cells running table events n horizon cells) × (result.totals ≡ row_totals table.count (min n most_events) result.cells totals) }
 {
     let rows = min(table.count, RULES);
     let width = min(n, EVENTS);

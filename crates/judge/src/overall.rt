@@ -1,15 +1,15 @@
 // The standings of rules about the cycle as such, at position 0.
 ghost use Rattle.std.specs.Prelude.{◌≡◌, true, ◌&&◌, ◌≤◌, take};
-ghost use Rattle.declare.specs.Limits.{mostEvents};
-ghost use Rattle.declare.specs.Lists.{firstUpTo};
+ghost use Rattle.declare.specs.Limits.{most_events};
+ghost use Rattle.declare.specs.Lists.{first_up_to};
 ghost use Rattle.declare.specs.Conditions.{met};
-ghost use Rattle.declare.specs.Events.{firstTime};
-ghost use Rattle.declare.specs.Overall.{isOverall, formula, settled};
+ghost use Rattle.declare.specs.Events.{first_time};
+ghost use Rattle.declare.specs.Overall.{is_overall, formula, settled};
 ghost use Rattle.declare.specs.Suits.{within, between};
-ghost use Rattle.declare.specs.Verdicts.{occursAt, fulfilledIf};
-ghost use Rattle.declare.specs.Reachability.{canOccur};
-ghost use Rattle.judge.specs.Cells.{judged, judgedOverall};
-ghost use Rattle.judge.specs.Occurrences.{earlier, targetOccurrence};
+ghost use Rattle.declare.specs.Verdicts.{occurs_at, fulfilled_if};
+ghost use Rattle.declare.specs.Reachability.{can_occur};
+ghost use Rattle.judge.specs.Cells.{judged, judged_overall};
+ghost use Rattle.judge.specs.Occurrences.{earlier, target_occurrence};
 
 use crate::target::target_of;
 use condition::bound::{all_pass, cycle_bound, tests_for};
@@ -46,7 +46,7 @@ fn settled(kind: Overall, activation: bool, target: bool) -> bool
 }
 
 fn fulfilled_if(holds: bool, target: u16) -> Standing
-    ensures { result ≡ fulfilledIf holds target }
+    ensures { result ≡ fulfilled_if holds target }
 {
     if holds {
         Standing::Fulfilled(target)
@@ -67,7 +67,7 @@ fn earlier(i: usize, j: usize) -> usize
 
 // The time of the first event; before there is one, the horizon.
 fn first_time(horizon: u32, events: [Event; EVENTS], n: usize) -> u32
-    ensures { result ≡ firstTime horizon (take n events) }
+    ensures { result ≡ first_time horizon (take n events) }
 {
     if n == 0 {
         return horizon;
@@ -89,8 +89,8 @@ fn meets_inside(rule: Rule, first: u32, e: Event) -> bool
 // The first of the n events at which the activity occurs, or 0. Most events have another activity:
 // these are not copied.
 fn first_occurrence(rule: Rule, activity: u8, events: [Event; EVENTS], n: usize) -> usize
-    requires { n ≤ mostEvents }
-    ensures { (result ≡ firstUpTo (occursAt rule (take n events) activity) n) × (result ≤ n) }
+    requires { n ≤ most_events }
+    ensures { (result ≡ first_up_to (occurs_at rule (take n events) activity) n) × (result ≤ n) }
 {
     let first = first_time(0, events, n);
     for p in 0..n {
@@ -106,8 +106,8 @@ fn first_occurrence(rule: Rule, activity: u8, events: [Event; EVENTS], n: usize)
 
 // The same for the target activity, if it is judged; else 0.
 fn target_occurrence(rule: Rule, events: [Event; EVENTS], n: usize) -> usize
-    requires { n ≤ mostEvents }
-    ensures { (result ≡ targetOccurrence rule (take n events) n) × (result ≤ n) }
+    requires { n ≤ most_events }
+    ensures { (result ≡ target_occurrence rule (take n events) n) × (result ≤ n) }
 {
     if counts_target(overall_of(rule.code)) {
         return first_occurrence(rule, rule.target, events, n);
@@ -117,7 +117,7 @@ fn target_occurrence(rule: Rule, events: [Event; EVENTS], n: usize) -> usize
 
 // Whether an event that is no earlier than the horizon may occur.
 fn can_occur(rule: Rule, events: [Event; EVENTS], n: usize, horizon: u32) -> bool
-    ensures { result ≡ canOccur rule (take n events) horizon }
+    ensures { result ≡ can_occur rule (take n events) horizon }
 {
     let first = first_time(horizon, events, n);
     can_suit(cycle_bound(rule, first), horizon)
@@ -131,7 +131,7 @@ fn judge_cycle(
     n: usize,
     horizon: u32,
 ) -> Standing
-    requires { (n ≤ mostEvents) × (isOverall rule.code ≡ true) }
+    requires { (n ≤ most_events) × (is_overall rule.code ≡ true) }
     ensures { result ≡ judged running rule (take n events) horizon 0 }
 {
     let kind = overall_of(rule.code);
@@ -157,7 +157,7 @@ pub fn judge_overall(
     horizon: u32,
     mut cells: [Cell; RULES],
 ) -> [Cell; RULES]
-    ensures { result ≡ judgedOverall running table events n horizon cells }
+    ensures { result ≡ judged_overall running table events n horizon cells }
 {
     let rows = min(table.count, RULES);
     let width = min(n, EVENTS);

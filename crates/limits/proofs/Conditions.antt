@@ -17,13 +17,13 @@ use Rattle.declare.specs.Lists.{all}
 abbrev Each : (a b c d : Bool) → ℕ → Bool
 Each a b c d n = (ltb n 1 || a) && (ltb n 2 || b) && (ltb n 3 || c) && (ltb n 4 || d)
 
-pub all-four : (p : Comparison → Bool) (n : ℕ) (x y z w : Comparison) → Each (p x) (p y) (p z) (p w) n ≡ all p (take n (x ∷ y ∷ z ∷ w ∷ []))
+pub all_four : (p : Comparison → Bool) (n : ℕ) (x y z w : Comparison) → Each (p x) (p y) (p z) (p w) n ≡ all p (take n (x ∷ y ∷ z ∷ w ∷ []))
 unfolding all
-all-four p zero x y z w = refl
-all-four p (suc zero) x y z w = simp and-true
-all-four p (suc (suc zero)) x y z w = simp and-true
-all-four p (suc (suc (suc zero))) x y z w = simp (and-true, and_assoc)
-all-four p (suc (suc (suc (suc zero)))) x y z w = simp (and-true, and_assoc)
-all-four p (suc (suc (suc (suc (suc k))))) x y z w =
+all_four p zero x y z w = refl
+all_four p (suc zero) x y z w = simp and-true
+all_four p (suc (suc zero)) x y z w = simp and-true
+all_four p (suc (suc (suc zero))) x y z w = simp (and-true, and_assoc)
+all_four p (suc (suc (suc (suc zero)))) x y z w = simp (and-true, and_assoc)
+all_four p (suc (suc (suc (suc (suc k))))) x y z w =
     let n : ℕ = suc (suc (suc (suc (suc k)))) in
     rw (le-ltb n 1 (omega arith), le-ltb n 2 (omega arith), le-ltb n 3 (omega arith), le-ltb n 4 (omega arith)) (simp (and-true, and_assoc))

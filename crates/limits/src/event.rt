@@ -1,7 +1,7 @@
 // The limits of events. A test that the number's type decides costs nothing.
 ghost use Rattle.std.specs.Prelude.{◌≡◌};
-ghost use Rattle.declare.specs.Comparisons.{operandOf};
-ghost use Rattle.declare.specs.Events.{in_range, isActivity, wellFormed};
+ghost use Rattle.declare.specs.Comparisons.{operand_of};
+ghost use Rattle.declare.specs.Events.{in_range, is_activity, well_formed};
 ghost use Rattle.declare.specs.declared.Operand.TheVariants.{Exact};
 
 use declare::{Event, LAST_ACTIVITY, LATEST, Reading};
@@ -14,7 +14,7 @@ pub fn in_range(v: i32) -> bool
 }
 
 fn reading_in_range(reading: Reading) -> bool
-    ensures { result ≡ in_range (operandOf reading) }
+    ensures { result ≡ in_range (operand_of reading) }
 {
     match reading {
         Reading::Blank => true,
@@ -23,13 +23,13 @@ fn reading_in_range(reading: Reading) -> bool
 }
 
 pub fn is_activity(a: u8) -> bool
-    ensures { result ≡ isActivity a }
+    ensures { result ≡ is_activity a }
 {
     (1 <= a) & (a <= LAST_ACTIVITY)
 }
 
 pub fn well_formed(e: Event) -> bool
-    ensures { result ≡ wellFormed e }
+    ensures { result ≡ well_formed e }
 {
     let first = e.reading1;
     let second = e.reading2;

@@ -1,8 +1,8 @@
 // The limits of rules: every number against its range, and what a template asks of its rule.
 ghost use Rattle.std.specs.Prelude.{◌≡◌, false, true};
 ghost use Rattle.declare.specs.Lists.{all};
-ghost use Rattle.declare.specs.Conditions.{comparisonsOf};
-ghost use Rattle.declare.specs.Rules.{isReading, validReference, validComparison, validCondition, validEnd, validWindow, validHead, fitsTemplate, validRule};
+ghost use Rattle.declare.specs.Conditions.{comparisons_of};
+ghost use Rattle.declare.specs.Rules.{is_reading, valid_reference, valid_comparison, valid_condition, valid_end, valid_window, valid_head, fits_template, valid_rule};
 
 use crate::event::{in_range, is_activity};
 use declare::codes::{counts_target, is_overall, overall_of};
@@ -11,14 +11,14 @@ use declare::{
 };
 
 fn is_reading(k: u8) -> bool
-    ensures { result ≡ isReading k }
+    ensures { result ≡ is_reading k }
 {
     (1 <= k) & (k <= 4)
 }
 
 // The activation's readings are named in a correlation only.
 fn valid_reference(correlation: bool, reference: Reference) -> bool
-    ensures { result ≡ validReference correlation reference }
+    ensures { result ≡ valid_reference correlation reference }
 {
     match reference {
         Reference::Constant(k) => in_range(k),
@@ -27,7 +27,7 @@ fn valid_reference(correlation: bool, reference: Reference) -> bool
 }
 
 fn valid_comparison(correlation: bool, c: Comparison) -> bool
-    ensures { result ≡ validComparison correlation c }
+    ensures { result ≡ valid_comparison correlation c }
 {
     let reference = c.reference;
     is_reading(c.reading) & valid_reference(correlation, reference)
@@ -35,7 +35,7 @@ fn valid_comparison(correlation: bool, c: Comparison) -> bool
 
 // The comparisons up to the count.
 fn valid_comparisons(correlation: bool, c: Condition) -> bool
-    ensures { result ≡ all (validComparison correlation) (comparisonsOf c) }
+    ensures { result ≡ all (valid_comparison correlation) (comparisons_of c) }
 {
     let n = c.count;
     ((n < 1) | valid_comparison(correlation, c.first))
@@ -46,7 +46,7 @@ fn valid_comparisons(correlation: bool, c: Condition) -> bool
 
 // A condition of no comparisons is valid, and many rules have one.
 fn valid_condition(correlation: bool, c: Condition) -> bool
-    ensures { result ≡ validCondition correlation c }
+    ensures { result ≡ valid_condition correlation c }
 {
     if c.count < 1 {
         return true;
@@ -56,7 +56,7 @@ fn valid_condition(correlation: bool, c: Condition) -> bool
 
 // Whether b, the end, is above a, the start.
 fn valid_end(a: u32, until: End) -> bool
-    ensures { result ≡ validEnd a until }
+    ensures { result ≡ valid_end a until }
 {
     match until {
         End::Never => true,
@@ -65,7 +65,7 @@ fn valid_end(a: u32, until: End) -> bool
 }
 
 fn valid_window(w: Window) -> bool
-    ensures { result ≡ validWindow w }
+    ensures { result ≡ valid_window w }
 {
     let until = w.until;
     (w.from <= LATEST) & valid_end(w.from, until)
@@ -73,7 +73,7 @@ fn valid_window(w: Window) -> bool
 
 // All of a rule but its conditions.
 fn valid_head(rule: Rule) -> bool
-    ensures { result ≡ validHead rule }
+    ensures { result ≡ valid_head rule }
 {
     (1 <= rule.code)
         & (rule.code <= LAST_TEMPLATE)
@@ -85,7 +85,7 @@ fn valid_head(rule: Rule) -> bool
 // Whether a rule about the cycle as such has no correlation, and activities that differ where both
 // count. Any other rule fits.
 pub fn fits_template(rule: Rule) -> bool
-    ensures { result ≡ fitsTemplate rule }
+    ensures { result ≡ fits_template rule }
 {
     if !is_overall(rule.code) {
         return true;
@@ -95,7 +95,7 @@ pub fn fits_template(rule: Rule) -> bool
 }
 
 pub fn valid_rule(rule: Rule) -> bool
-    ensures { result ≡ validRule rule }
+    ensures { result ≡ valid_rule rule }
 {
     if !fits_template(rule) {
         return false;

@@ -13,34 +13,34 @@ use lib.ListN.{length, take, drop, set, replicate, length-drop, drop_of_length-l
 use lib.Seq.{drop-drop}
 use Rattle.declare.specs.Answers.{Answer, accepted, refused, ◌>>=◌}
 use Rattle.declare.proofs.Answers.{no_of}
-use Rattle.declare.proofs.Filled.{Filled, filled_none, filled-count, filled-values, filled_more}
+use Rattle.declare.proofs.Filled.{Filled, filled_none, filled_count, filled_values, filled_more}
 use Rattle.number.specs.Number.{none}
 use Rattle.line.specs.Fields.{LF, index_of, following, split}
-use Rattle.line.specs.Texts.{All, Stop, lineAfter, continued, lines_of, text_of, line_of}
-use Rattle.line.proofs.Fields.{part-rest}
-use Rattle.line.proofs.Texts.{line-then, text-step}
+use Rattle.line.specs.Texts.{All, Stop, line_after, continued, lines_of, text_of, line_of}
+use Rattle.line.proofs.Fields.{part_rest}
+use Rattle.line.proofs.Texts.{line_then, text_step}
 
-found-end : {A : Type 0} (holds : List (List ℕ) → Answer A) (s : List ℕ) (r : A) → line_of holds s ≡ accepted r → index_of LF s + 1 ≤ length s
+found_end : {A : Type 0} (holds : List (List ℕ) → Answer A) (s : List ℕ) (r : A) → line_of holds s ≡ accepted r → index_of LF s + 1 ≤ length s
 unfolding line_of
-found-end holds s r h = go (ltb (index_of LF s) (length s)) refl
+found_end holds s r h = go (ltb (index_of LF s) (length s)) refl
   where
     go : (t : Bool) → ltb (index_of LF s) (length s) ≡ t → index_of LF s + 1 ≤ length s
     go true p = omega (arith, ltb-true (index_of LF s) (length s) p)
     go false p = absurd (no_of (rw p at h))
 
-abbrev recordOf : {A : Type 0} → (List (List ℕ) → Answer A) → (List A → A → Answer A) → List A → List (List ℕ) → Answer A
-recordOf holds follows above fields = holds fields >>= follows above
+abbrev record_of : {A : Type 0} → (List (List ℕ) → Answer A) → (List A → A → Answer A) → List A → List (List ℕ) → Answer A
+record_of holds follows above fields = holds fields >>= follows above
 
 module _ {A : Type 0} (holds : List (List ℕ) → Answer A) (follows : List A → A → Answer A) (room : ℕ) (slot : A) where
   -- `at` bytes of the text are read, and gave `count` records
   pub record Turn (text : List ℕ) (count at : ℕ) (slots : List A) : Type 0 where
     pub within : at ≤ length text
     pub filled : Filled room slot count slots
-    pub left : text_of (recordOf holds follows) text ≡ lines_of (recordOf holds follows) (take count slots) (split LF (drop at text))
+    pub left : text_of (record_of holds follows) text ≡ lines_of (record_of holds follows) (take count slots) (split LF (drop at text))
 
-  pub first-turn : (text : List ℕ) → Turn text 0 0 (replicate room slot)
+  pub first_turn : (text : List ℕ) → Turn text 0 0 (replicate room slot)
   unfolding text_of
-  first-turn text = record { within = omega arith; filled = filled_none room slot; left = refl }
+  first_turn text = record { within = omega arith; filled = filled_none room slot; left = refl }
 
   -- and `line` is what the next line holds, which is `next` bytes long: its reader is handed the
   -- part of the text from `at` on
@@ -50,10 +50,10 @@ module _ {A : Type 0} (holds : List (List ℕ) → Answer A) (follows : List A �
     pub found : (line ≡ line_of holds (take (length text - at) (drop at text))) × (next ≡ index_of LF (take (length text - at) (drop at text)) + 1)
 
 module _ {A : Type 0} {holds : List (List ℕ) → Answer A} {follows : List A → A → Answer A} {room : ℕ} {slot : A} {text : List ℕ} {count at : ℕ} {slots : List A} (t : Turn holds follows room slot text count at slots) where
-  pub turn-count : length (take count slots) ≡ count
-  turn-count = filled-count room slot count slots t.filled
+  pub turn_count : length (take count slots) ≡ count
+  turn_count = filled_count room slot count slots t.filled
 
-  pub last_turn : length text ≤ at → text_of (recordOf holds follows) text ≡ All (take count slots)
+  pub last_turn : length text ≤ at → text_of (record_of holds follows) text ≡ All (take count slots)
   unfolding lines_of split none
   last_turn h = t.left ∙ rw (drop_of_length-le text h)
 
@@ -61,34 +61,34 @@ module _ {A : Type 0} {holds : List (List ℕ) → Answer A} {follows : List A �
   abbrev above : List A
   above = take count slots
 
-  line-is : (line ≡ line_of holds (drop at text)) × (next ≡ index_of LF (drop at text) + 1)
-  line-is = rw (part-rest text at) at hand.found
+  line_is : (line ≡ line_of holds (drop at text)) × (next ≡ index_of LF (drop at text) + 1)
+  line_is = rw (part_rest text at) at hand.found
 
-  by-line : text_of (recordOf holds follows) text ≡ continued above (line >>= follows above) (λ r. lines_of (recordOf holds follows) (above ++ (r ∷ [])) (split LF (following LF (drop at text))))
-  by-line =
+  by_line : text_of (record_of holds follows) text ≡ continued above (line >>= follows above) (λ r. lines_of (record_of holds follows) (above ++ (r ∷ [])) (split LF (following LF (drop at text))))
+  by_line =
       hand.turn.left
-      ∙ text-step (recordOf holds follows) above (drop at text) (rw (length-drop at text) (omega (arith, hand.more)))
-      ∙ rw (line-then holds (follows above) (drop at text), line-is.0)
+      ∙ text_step (record_of holds follows) above (drop at text) (rw (length-drop at text) (omega (arith, hand.more)))
+      ∙ rw (line_then holds (follows above) (drop at text), line_is.0)
 
-  pub turn-refused : (n : ℕ) → (line >>= follows above) ≡ refused n → text_of (recordOf holds follows) text ≡ Stop n (count + 1)
-  unfolding continued lineAfter
-  turn-refused n h = by-line ∙ rw h (ap (λ (k : ℕ). Stop n (k + 1)) (turn-count hand.turn))
+  pub turn_refused : (n : ℕ) → (line >>= follows above) ≡ refused n → text_of (record_of holds follows) text ≡ Stop n (count + 1)
+  unfolding continued line_after
+  turn_refused n h = by_line ∙ rw h (ap (λ (k : ℕ). Stop n (k + 1)) (turn_count hand.turn))
 
   module _ (r : A) (h : line ≡ accepted r) where
     -- the next line begins in the text, or at its end
-    pub turn-within : at + next ≤ length text
-    turn-within =
-        omega (arith, hand.more, found-end holds (drop at text) r (sym line-is.0 ∙ h), line-is.1, length-drop at text)
+    pub turn_within : at + next ≤ length text
+    turn_within =
+        omega (arith, hand.more, found_end holds (drop at text) r (sym line_is.0 ∙ h), line_is.1, length-drop at text)
 
-    pub turn-less : length text - (at + next) < length text - at
-    turn-less = omega (arith, hand.more, line-is.1)
+    pub turn_less : length text - (at + next) < length text - at
+    turn_less = omega (arith, hand.more, line_is.1)
 
-    pub turn-taken : follows above r ≡ accepted r → count < room → Turn holds follows room slot text (count + 1) (at + next) (set slots count r)
+    pub turn_taken : follows above r ≡ accepted r → count < room → Turn holds follows room slot text (count + 1) (at + next) (set slots count r)
     unfolding continued ◌>>=◌ following
-    turn-taken f l =
+    turn_taken f l =
         let filled = hand.turn.filled in
         record {
-          within = turn-within;
+          within = turn_within;
           filled = filled_more room slot count slots filled r l;
-          left = by-line ∙ rw (h, f, filled-values room slot count slots filled r l, ← line-is.1, drop-drop next at text);
+          left = by_line ∙ rw (h, f, filled_values room slot count slots filled r l, ← line_is.1, drop-drop next at text);
         }

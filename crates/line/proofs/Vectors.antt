@@ -5,13 +5,13 @@ use Prim.Native.Nat.{ℕ}
 use lib.Dec.{eqb}
 use lib.IntN.{pos, negsuc}
 use lib.ListN.{length, get_or}
-use Rattle.number.specs.Number.{digit, digits, none, zeroAlone, positive, negative, naturalForm, integerForm, dash, valueFrom, value_of, integerValue, inNaturalRange, naturalOf, inSignedRange, integerOf}
+use Rattle.number.specs.Number.{digit, digits, none, zero_alone, positive, negative, natural_form, integer_form, dash, value_from, value_of, integer_value, in_natural_range, natural_of, in_signed_range, integer_of}
 use Rattle.number.proofs.Quoted.{bytes, Case, ◌gives◌, Checked}
 use Rattle.line.specs.Types.{Reading, Blank, Value}
-use Rattle.line.specs.Fields.{LF, tab, before, onto, split, eachAfter, joined}
+use Rattle.line.specs.Fields.{LF, tab, before, onto, split, each_after, joined}
 use Rattle.declare.specs.Answers.{Answer, accepted, refused, ◌>>◌, require}
-use Rattle.line.specs.Values.{faultNumber, naturalAnswer, numberField, integerAnswer, readingField}
-use Rattle.line.specs.Texts.{Records, All, Stop, lineAfter, continued, lines_of, text_of, writtenLine, writtenText}
+use Rattle.line.specs.Values.{fault_number, natural_answer, number_field, integer_answer, reading_field}
+use Rattle.line.specs.Texts.{Records, All, Stop, line_after, continued, lines_of, text_of, written_line, written_text}
 
 -- no bytes are one empty part; a separator at the end leaves an empty part behind it
 abbrev parted : List (Case (List (List ℕ)))
@@ -79,12 +79,12 @@ texts =
 
 pub record Vectors : Type 0 where
   pub of_parts : Checked (split tab) parted
-  pub of-lines : Checked (before LF) lines
-  pub of-activities : Checked (numberField 1 64) activities
-  pub of-readings : Checked readingField readings
-  pub of-texts : Checked (text_of field) texts
-  pub of-written : writtenText (λ (p : List ℕ). p ∷ p ∷ []) (bytes "a" ∷ bytes "bc" ∷ []) ≡ bytes "a\ta\nbc\tbc\n"
+  pub of_lines : Checked (before LF) lines
+  pub of_activities : Checked (number_field 1 64) activities
+  pub of_readings : Checked reading_field readings
+  pub of_texts : Checked (text_of field) texts
+  pub of_written_lem : written_text (λ (p : List ℕ). p ∷ p ∷ []) (bytes "a" ∷ bytes "bc" ∷ []) ≡ bytes "a\ta\nbc\tbc\n"
 
 pub vectors : Vectors
-unfolding digit digits none zeroAlone positive negative naturalForm integerForm dash valueFrom value_of integerValue inNaturalRange naturalOf inSignedRange integerOf before onto split eachAfter joined ◌>>◌ require faultNumber naturalAnswer numberField integerAnswer readingField lineAfter continued lines_of text_of writtenLine writtenText
-vectors = record { of_parts = refl; of-lines = refl; of-activities = refl; of-readings = refl; of-texts = refl; of-written = refl }
+unfolding digit digits none zero_alone positive negative natural_form integer_form dash value_from value_of integer_value in_natural_range natural_of in_signed_range integer_of before onto split each_after joined ◌>>◌ require fault_number natural_answer number_field integer_answer reading_field line_after continued lines_of text_of written_line written_text
+vectors = record { of_parts = refl; of_lines = refl; of_activities = refl; of_readings = refl; of_texts = refl; of_written_lem = refl }

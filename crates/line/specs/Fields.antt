@@ -28,9 +28,9 @@ unfoldable pub following : ℕ → List ℕ → List ℕ
 following b s = drop (index_of b s + 1) s
 
 -- n fields that a tab ends, one after the other, and one that LF ends
-unfoldable pub fieldsFrom : ℕ → List ℕ → List (List ℕ)
-fieldsFrom zero part = before LF part ∷ []
-fieldsFrom (suc n) part = before tab part ∷ fieldsFrom n (following tab part)
+unfoldable pub fields_from : ℕ → List ℕ → List (List ℕ)
+fields_from zero part = before LF part ∷ []
+fields_from (suc n) part = before tab part ∷ fields_from n (following tab part)
 
 -- how often b stands
 unfoldable pub count_of : ℕ → List ℕ → ℕ
@@ -48,11 +48,11 @@ split b [] = [] ∷ []
 split b (x ∷ xs) = cond (eqb x b) ([] ∷ split b xs) (onto x (split b xs))
 
 -- b before each of some parts
-unfoldable pub eachAfter : ℕ → List (List ℕ) → List ℕ
-eachAfter b [] = []
-eachAfter b (p ∷ ps) = b ∷ (p ++ eachAfter b ps)
+unfoldable pub each_after : ℕ → List (List ℕ) → List ℕ
+each_after b [] = []
+each_after b (p ∷ ps) = b ∷ (p ++ each_after b ps)
 
 -- some parts with b between them
 unfoldable pub joined : ℕ → List (List ℕ) → List ℕ
 joined b [] = []
-joined b (p ∷ ps) = p ++ eachAfter b ps
+joined b (p ∷ ps) = p ++ each_after b ps

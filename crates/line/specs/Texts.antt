@@ -1,5 +1,5 @@
 -- The records of a text. "Lines are read downward, the first refusal ends it"; "an empty text has
--- no records". `recordOf` stands for what one line holds: given the records above it and its
+-- no records". `record_of` stands for what one line holds: given the records above it and its
 -- fields, a record, or the number of its first cause.
 use Rattle.std.specs.Prelude.{Bool, true, false, cond, List, [], ◌∷◌, ◌++◌, ℕ, ◌+◌, ltb, length}
 use Rattle.number.specs.Number.{none}
@@ -19,23 +19,23 @@ is_all (All rs) = true
 is_all (Stop n line) = false
 
 -- lines count from 1, and each line above gave one record
-unfoldable pub lineAfter : {A : Type 0} → List A → ℕ
-lineAfter above = length above + 1
+unfoldable pub line_after : {A : Type 0} → List A → ℕ
+line_after above = length above + 1
 
 unfoldable pub continued : {A : Type 0} → List A → Answer A → (A → Records A) → Records A
 continued above (accepted r) rest = rest r
-continued above (refused n) rest = Stop n (lineAfter above)
+continued above (refused n) rest = Stop n (line_after above)
 
 -- the lists that LF parts: each but the last is a line; the last is empty, or a line that LF does
 -- not end, 12
 unfoldable pub lines_of : {A : Type 0} → (List A → List (List ℕ) → Answer A) → List A → List (List ℕ) → Records A
-lines_of recordOf above [] = All above
-lines_of recordOf above (last ∷ []) = cond (none last) (All above) (Stop 12 (lineAfter above))
-lines_of recordOf above (line ∷ next ∷ more) =
-    continued above (recordOf above (split tab line)) λ r. lines_of recordOf (above ++ (r ∷ [])) (next ∷ more)
+lines_of record_of above [] = All above
+lines_of record_of above (last ∷ []) = cond (none last) (All above) (Stop 12 (line_after above))
+lines_of record_of above (line ∷ next ∷ more) =
+    continued above (record_of above (split tab line)) λ r. lines_of record_of (above ++ (r ∷ [])) (next ∷ more)
 
 unfoldable pub text_of : {A : Type 0} → (List A → List (List ℕ) → Answer A) → List ℕ → Records A
-text_of recordOf text = lines_of recordOf [] (split LF text)
+text_of record_of text = lines_of record_of [] (split LF text)
 
 -- the first line of a text
 unfoldable pub line_of : {A : Type 0} → (List (List ℕ) → Answer A) → List ℕ → Answer A
@@ -43,15 +43,15 @@ line_of holds text = cond (ltb (index_of LF text) (length text)) (holds (split t
 
 -- ---- written texts; `fields_of` stands for the texts of a record's fields
 
-unfoldable pub writtenLine : {A : Type 0} → (A → List (List ℕ)) → A → List ℕ
-writtenLine fields_of r = joined tab (fields_of r) ++ (LF ∷ [])
+unfoldable pub written_line : {A : Type 0} → (A → List (List ℕ)) → A → List ℕ
+written_line fields_of r = joined tab (fields_of r) ++ (LF ∷ [])
 
-unfoldable pub writtenText : {A : Type 0} → (A → List (List ℕ)) → List A → List ℕ
-writtenText fields_of [] = []
-writtenText fields_of (r ∷ rs) = writtenLine fields_of r ++ writtenText fields_of rs
+unfoldable pub written_text : {A : Type 0} → (A → List (List ℕ)) → List A → List ℕ
+written_text fields_of [] = []
+written_text fields_of (r ∷ rs) = written_line fields_of r ++ written_text fields_of rs
 
 -- ---- the code's outcome beside its records, by document 01's numbers
 
-unfoldable pub recordsRead : {A : Type 0} → Outcome → List A → Records A
-recordsRead Accepted rs = All rs
-recordsRead (Refused cause line) rs = Stop (number_of cause) line
+unfoldable pub records_read : {A : Type 0} → Outcome → List A → Records A
+records_read Accepted rs = All rs
+records_read (Refused cause line) rs = Stop (number_of cause) line

@@ -3,8 +3,8 @@
 ghost use Rattle.std.specs.Prelude.{◌≡◌, ◌+◌, get_or, take, drop};
 ghost use Rattle.number.specs.Number.{dash};
 ghost use Rattle.line.specs.Fields.{tab, index_of, before};
-ghost use Rattle.line.specs.Scans.{lineScan, fieldScan, readingBy};
-ghost use Rattle.line.specs.Values.{faultNumber, naturalAnswer, numberField, readingField, byteRead, readingRead};
+ghost use Rattle.line.specs.Scans.{line_scan, field_scan, reading_by};
+ghost use Rattle.line.specs.Values.{fault_number, natural_answer, number_field, reading_field, byte_read, reading_read};
 ghost use Rattle.declare.specs.Refusals.{number_of};
 
 use declare::{Reading, Refusal};
@@ -16,13 +16,13 @@ pub const LINE_FEED: u8 = b'\n';
 pub const TAB: u8 = b'\t';
 
 // Whether a text was accepted; if not, why and at which line.
-#[derive(Drop)]
+#[derive(Clone, Copy)]
 pub enum Outcome {
     Accepted,
     Refused(Refusal, usize),
 }
 
-#[derive(Drop)]
+#[derive(Clone, Copy)]
 pub struct LineScan {
     pub end: usize,
     pub tabs: usize,
@@ -30,7 +30,7 @@ pub struct LineScan {
 
 // Where LF ends the first line, or the text's length; and the tabs before it.
 pub fn scan_line(text: &[u8]) -> LineScan
-    ensures { result ≡ lineScan text.now }
+    ensures { result ≡ line_scan text.now }
 {
     let mut tabs: usize = 0;
     let mut i = 0;
@@ -64,7 +64,7 @@ pub fn find(s: &[u8], byte: u8) -> usize
     i
 }
 
-#[derive(Drop)]
+#[derive(Clone, Copy)]
 pub struct FieldScan {
     pub reader: Reader,
     pub length: usize,
@@ -72,7 +72,7 @@ pub struct FieldScan {
 
 // The number reader over the first field, which ends at the separator or with the part.
 pub fn scan_field(part: &[u8], separator: u8) -> FieldScan
-    ensures { result ≡ fieldScan separator part.now }
+    ensures { result ≡ field_scan separator part.now }
 {
     let mut reader = Reader::new();
     let mut i = 0;
@@ -88,7 +88,7 @@ pub fn scan_field(part: &[u8], separator: u8) -> FieldScan
 
 // The refusal of a field that is not a number of its range.
 pub fn refusal_of(fault: Fault) -> Refusal
-    ensures { number_of result ≡ faultNumber fault }
+    ensures { number_of result ≡ fault_number fault }
 {
     match fault {
         Fault::Form => Refusal::NumberForm,
@@ -96,7 +96,7 @@ pub fn refusal_of(fault: Fault) -> Refusal
     }
 }
 
-#[derive(Drop)]
+#[derive(Clone, Copy)]
 pub struct NumberField {
     pub answer: NaturalAnswer,
     pub length: usize,
@@ -104,7 +104,7 @@ pub struct NumberField {
 
 // The first field as an unsigned number from `low` to `high`.
 pub fn number_field(part: &[u8], separator: u8, low: u32, high: u32) -> NumberField
-    ensures answer_value { naturalAnswer result.answer ≡ numberField low high (before separator part.now) }
+    ensures answer_value { natural_answer result.answer ≡ number_field low high (before separator part.now) }
     ensures length_value { result.length ≡ index_of separator part.now }
 {
     let scan = scan_field(part, separator);
@@ -116,13 +116,13 @@ pub fn number_field(part: &[u8], separator: u8, low: u32, high: u32) -> NumberFi
     }
 }
 
-#[derive(Drop)]
+#[derive(Clone, Copy)]
 pub enum ByteAnswer {
     Byte(u8),
     NoByte(Fault),
 }
 
-#[derive(Drop)]
+#[derive(Clone, Copy)]
 pub struct ByteField {
     pub answer: ByteAnswer,
     pub length: usize,
@@ -130,7 +130,7 @@ pub struct ByteField {
 
 // The first field, which a tab ends, as a number from 1 to `high`.
 pub fn byte_field(part: &[u8], high: u8) -> ByteField
-    ensures answer_value { byteRead result.answer ≡ numberField 1 high (before tab part.now) }
+    ensures answer_value { byte_read result.answer ≡ number_field 1 high (before tab part.now) }
     ensures length_value { result.length ≡ index_of tab part.now }
 {
     let field = number_field(part, TAB, 1, high as u32);
@@ -151,20 +151,20 @@ pub fn byte_field(part: &[u8], high: u8) -> ByteField
     }
 }
 
-#[derive(Drop)]
+#[derive(Clone, Copy)]
 pub enum ReadingAnswer {
     Read(Reading),
     NoReading(Fault),
 }
 
-#[derive(Drop)]
+#[derive(Clone, Copy)]
 pub struct ReadingField {
     pub answer: ReadingAnswer,
     pub length: usize,
 }
 
 fn reading_answer(reader: Reader) -> ReadingAnswer
-    ensures { readingRead result ≡ readingBy reader }
+    ensures { reading_read result ≡ reading_by reader }
 {
     if reader.is_dash() {
         return ReadingAnswer::Read(Reading::Blank);
@@ -177,7 +177,7 @@ fn reading_answer(reader: Reader) -> ReadingAnswer
 
 // The first field as a reading.
 pub fn reading_field(part: &[u8], separator: u8) -> ReadingField
-    ensures answer_value { readingRead result.answer ≡ readingField (before separator part.now) }
+    ensures answer_value { reading_read result.answer ≡ reading_field (before separator part.now) }
     ensures length_value { result.length ≡ index_of separator part.now }
 {
     let scan = scan_field(part, separator);

@@ -3,54 +3,54 @@ use Rattle.std.specs.Prelude.{◌≡◌, List, ℕ, length}
 use Rattle.declare.specs.declared.Event.{Event}
 use Rattle.declare.specs.declared.Rule.{Rule}
 use Rattle.declare.specs.declared.Table.{Table}
-use Rattle.declare.specs.Slots.{eventSlots, table_of}
+use Rattle.declare.specs.Slots.{event_slots, table_of}
 use Rattle.declare.specs.Refusals.{number_of}
 use Rattle.run.specs.declared.Run.{Run}
-use Rattle.run.specs.Start.{newRun}
-use Rattle.run.specs.Close.{finishedRun}
+use Rattle.run.specs.Start.{new_run}
+use Rattle.run.specs.Close.{finished_run}
 use Rattle.line.specs.Texts.{Records, All, Stop}
-use Rattle.cycle_text.specs.Cycle.{cycleTextOf}
-use Rattle.rule_text.specs.Rules.{rulesTextOf}
-use Rattle.rule_text.specs.Reads.{rulesIn}
+use Rattle.cycle_text.specs.Cycle.{cycle_text_of}
+use Rattle.rule_text.specs.Rules.{rules_text_of}
+use Rattle.rule_text.specs.Reads.{rules_in}
 use Rattle.notebook.specs.Types.{Text, Rules, Cycle, Outcome, Closed, Refused, Notebook}
 
 -- a closed run; or the text that is refused, the number, and the line
 pub data Reply : Type 0 where
-  readAs : Run → Reply
-  notRead : Text → ℕ → ℕ → Reply
+  read_as : Run → Reply
+  not_read : Text → ℕ → ℕ → Reply
 
 -- what the events make of a table
-unfoldable pub readWith : Table → Records Event → Reply
-readWith t (All events) = readAs (finishedRun t (length events) (eventSlots events))
-readWith t (Stop n line) = notRead Cycle n line
+unfoldable pub read_with : Table → Records Event → Reply
+read_with t (All events) = read_as (finished_run t (length events) (event_slots events))
+read_with t (Stop n line) = not_read Cycle n line
 
 -- "rules first": the cycle text is looked at if the rules are accepted
-unfoldable pub finishedOf : Records Rule → Records Event → Reply
-finishedOf (All rules) events = readWith (table_of rules) events
-finishedOf (Stop n line) events = notRead Rules n line
+unfoldable pub finished_of : Records Rule → Records Event → Reply
+finished_of (All rules) events = read_with (table_of rules) events
+finished_of (Stop n line) events = not_read Rules n line
 
-unfoldable pub notebookOf : List ℕ → List ℕ → Reply
-notebookOf rules cycle = finishedOf (rulesTextOf rules) (cycleTextOf cycle)
+unfoldable pub notebook_of : List ℕ → List ℕ → Reply
+notebook_of rules cycle = finished_of (rules_text_of rules) (cycle_text_of cycle)
 
 -- ---- the code's answer
 
-unfoldable pub outcomeReply : Run → Outcome → Reply
-outcomeReply run Closed = readAs run
-outcomeReply run (Refused text cause line) = notRead text (number_of cause) line
+unfoldable pub outcome_reply : Run → Outcome → Reply
+outcome_reply run Closed = read_as run
+outcome_reply run (Refused text cause line) = not_read text (number_of cause) line
 
-unfoldable pub notebookReply : Notebook → Reply
-notebookReply r = outcomeReply r.run r.outcome
+unfoldable pub notebook_reply : Notebook → Reply
+notebook_reply r = outcome_reply r.run r.outcome
 
 -- the run beside the answer; beside a refusal document 01 leaves it free: here the new run of the
 -- rules read
-unfoldable pub runBeside : Table → Reply → Run
-runBeside t (readAs r) = r
-runBeside t (notRead text n line) = newRun t
+unfoldable pub run_beside : Table → Reply → Run
+run_beside t (read_as r) = r
+run_beside t (not_read text n line) = new_run t
 
-unfoldable pub notebookRun : List ℕ → List ℕ → Run
-notebookRun rules cycle = runBeside (table_of (rulesIn (rulesTextOf rules))) (notebookOf rules cycle)
+unfoldable pub notebook_run : List ℕ → List ℕ → Run
+notebook_run rules cycle = run_beside (table_of (rules_in (rules_text_of rules))) (notebook_of rules cycle)
 
 -- a call with the table t whose reply is this
 pub record Reads (reply : Reply) (t : Table) (r : Notebook) : Type 0 where
-  pub replies : notebookReply r ≡ reply
-  pub run : r.run ≡ runBeside t reply
+  pub replies : notebook_reply r ≡ reply
+  pub run : r.run ≡ run_beside t reply

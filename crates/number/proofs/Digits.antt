@@ -7,7 +7,7 @@ use Prim.Native.Nat.{ℕ, ◌+◌, ◌≤◌, ◌<◌}
 use native.Mathlib.Omega.{arith}
 use borrow.Author.Tests.{leb-true, le-leb, eqb-true}
 use lib.Dec.{leb, eqb}
-use Rattle.number.specs.Number.{digit, digits, none, zeroAlone, positive, negative, naturalForm, integerForm}
+use Rattle.number.specs.Number.{digit, digits, none, zero_alone, positive, negative, natural_form, integer_form}
 
 pub and_left : (a b : Bool) → (a && b) ≡ true → a ≡ true
 and_left true b h = refl
@@ -24,9 +24,9 @@ module _ (b : ℕ) (h : digit b ≡ true) where
   unfolding digit
   digit_low = leb-true 48 b (and_left (leb 48 b) (leb b 57) h)
 
-  pub digit-high : b ≤ 57
+  pub digit_high : b ≤ 57
   unfolding digit
-  digit-high = leb-true b 57 (and_right (leb 48 b) (leb b 57) h)
+  digit_high = leb-true b 57 (and_right (leb 48 b) (leb b 57) h)
 
 pub is_digit : (d : ℕ) → d < 10 → digit (48 + d) ≡ true
 unfolding digit
@@ -34,48 +34,48 @@ is_digit d h = simp (le-leb 48 (48 + d) (omega arith), le-leb (48 + d) 57 (omega
 
 -- ---- the forms, by the first byte
 
-pub natural-empty : naturalForm [] ≡ false
-unfolding naturalForm zeroAlone positive
-natural-empty = refl
+pub natural_empty : natural_form [] ≡ false
+unfolding natural_form zero_alone positive
+natural_empty = refl
 
-pub integer_empty : integerForm [] ≡ false
-unfolding integerForm negative
-integer_empty = rw natural-empty
+pub integer_empty : integer_form [] ≡ false
+unfolding integer_form negative
+integer_empty = rw natural_empty
 
 module _ (b : ℕ) (bs : List ℕ) where
   -- `0`, then nothing
-  pub natural-zero : eqb b 48 ≡ true → naturalForm (b ∷ bs) ≡ none bs
-  unfolding naturalForm zeroAlone positive
-  natural-zero h = rw h (go (none bs))
+  pub natural_zero : eqb b 48 ≡ true → natural_form (b ∷ bs) ≡ none bs
+  unfolding natural_form zero_alone positive
+  natural_zero h = rw h (go (none bs))
     where
       go : (t : Bool) → (t || false) ≡ t
       go true = refl
       go false = refl
 
-  pub natural-digit : eqb b 48 ≡ false → naturalForm (b ∷ bs) ≡ (digit b && digits bs)
-  unfolding naturalForm zeroAlone positive
-  natural-digit h = rw h
+  pub natural_digit : eqb b 48 ≡ false → natural_form (b ∷ bs) ≡ (digit b && digits bs)
+  unfolding natural_form zero_alone positive
+  natural_digit h = rw h
 
-  pub positive-zero : eqb b 48 ≡ true → positive (b ∷ bs) ≡ false
+  pub positive_zero : eqb b 48 ≡ true → positive (b ∷ bs) ≡ false
   unfolding positive
-  positive-zero h = rw h
+  positive_zero h = rw h
 
-  pub positive-digit : eqb b 48 ≡ false → positive (b ∷ bs) ≡ (digit b && digits bs)
+  pub positive_digit : eqb b 48 ≡ false → positive (b ∷ bs) ≡ (digit b && digits bs)
   unfolding positive
-  positive-digit h = rw h
+  positive_digit h = rw h
 
   -- a `-` is neither `0` nor a digit
-  pub natural-dash : eqb b 45 ≡ true → naturalForm (b ∷ bs) ≡ false
-  unfolding naturalForm zeroAlone positive digit
-  natural-dash h = rw (eqb-true b 45 h)
+  pub natural_dash : eqb b 45 ≡ true → natural_form (b ∷ bs) ≡ false
+  unfolding natural_form zero_alone positive digit
+  natural_dash h = rw (eqb-true b 45 h)
 
-  pub integer-dash : eqb b 45 ≡ true → integerForm (b ∷ bs) ≡ positive bs
-  unfolding integerForm negative
-  integer-dash h = rw (natural-dash h, h)
+  pub integer_dash : eqb b 45 ≡ true → integer_form (b ∷ bs) ≡ positive bs
+  unfolding integer_form negative
+  integer_dash h = rw (natural_dash h, h)
 
-  pub integer-natural : eqb b 45 ≡ false → integerForm (b ∷ bs) ≡ naturalForm (b ∷ bs)
-  unfolding integerForm negative
-  integer-natural h = rw h (go (naturalForm (b ∷ bs)))
+  pub integer_natural : eqb b 45 ≡ false → integer_form (b ∷ bs) ≡ natural_form (b ∷ bs)
+  unfolding integer_form negative
+  integer_natural h = rw h (go (natural_form (b ∷ bs)))
     where
       go : (t : Bool) → (t || false) ≡ t
       go true = refl

@@ -4,9 +4,9 @@ use mathlib.Core.Bool.{true, false}
 use mathlib.Core.List.{List, [], ◌∷◌, map}
 use lib.IntN.{pos, negsuc}
 use Rattle.number.specs.Types.{Reader, Empty, Minus, Zero, Digits, Malformed, Form, Range, NaturalAnswer, Natural, NoNatural, IntegerAnswer, Integer, NoInteger}
-use Rattle.number.specs.Number.{digit, digits, none, zeroAlone, positive, negative, naturalForm, integerForm, valueFrom, value_of, integerValue, inNaturalRange, naturalOf, inSignedRange, integerOf}
-use Rattle.number.specs.Reader.{bound, extended, firstDigit, pushed, after}
-use Rattle.number.specs.Written.{digitsIn, digitsOf, integerText}
+use Rattle.number.specs.Number.{digit, digits, none, zero_alone, positive, negative, natural_form, integer_form, value_from, value_of, integer_value, in_natural_range, natural_of, in_signed_range, integer_of}
+use Rattle.number.specs.Reader.{bound, extended, first_digit, pushed, after}
+use Rattle.number.specs.Written.{digits_in, digits_of, integer_text}
 use Rattle.number.proofs.Quoted.{bytes, Case, ◌gives◌, Checked}
 
 -- as a time
@@ -102,12 +102,12 @@ readers =
     ∷ []
 
 pub record Vectors : Type 0 where
-  pub of-times : Checked (naturalOf 0 4294967295) times
-  pub of-activities : Checked (naturalOf 1 64) activities
-  pub of-integers : Checked integerOf integers
-  pub of-readers : Checked (after Empty) readers
-  pub written : map integerText (pos 0 ∷ pos 10 ∷ pos 40507 ∷ negsuc 0 ∷ negsuc 1299 ∷ []) ≡ map bytes ("0" ∷ "10" ∷ "40507" ∷ "-1" ∷ "-1300" ∷ [])
+  pub of_times : Checked (natural_of 0 4294967295) times
+  pub of_activities : Checked (natural_of 1 64) activities
+  pub of_integers : Checked integer_of integers
+  pub of_readers : Checked (after Empty) readers
+  pub written : map integer_text (pos 0 ∷ pos 10 ∷ pos 40507 ∷ negsuc 0 ∷ negsuc 1299 ∷ []) ≡ map bytes ("0" ∷ "10" ∷ "40507" ∷ "-1" ∷ "-1300" ∷ [])
 
 pub vectors : Vectors
-unfolding digit digits none zeroAlone positive negative naturalForm integerForm valueFrom value_of integerValue inNaturalRange naturalOf inSignedRange integerOf bound extended firstDigit pushed after digitsIn digitsOf integerText
-vectors = record { of-times = refl; of-activities = refl; of-integers = refl; of-readers = refl; written = refl }
+unfolding digit digits none zero_alone positive negative natural_form integer_form value_from value_of integer_value in_natural_range natural_of in_signed_range integer_of bound extended first_digit pushed after digits_in digits_of integer_text
+vectors = record { of_times = refl; of_activities = refl; of_integers = refl; of_readers = refl; written = refl }

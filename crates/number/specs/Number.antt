@@ -29,9 +29,9 @@ none [] = true
 none (b ∷ bs) = false
 
 -- `0`
-unfoldable pub zeroAlone : List ℕ → Bool
-zeroAlone [] = false
-zeroAlone (b ∷ bs) = eqb b digit0 && none bs
+unfoldable pub zero_alone : List ℕ → Bool
+zero_alone [] = false
+zero_alone (b ∷ bs) = eqb b digit0 && none bs
 
 -- "a non-zero digit and digits"
 unfoldable pub positive : List ℕ → Bool
@@ -43,11 +43,11 @@ unfoldable pub negative : List ℕ → Bool
 negative [] = false
 negative (b ∷ bs) = eqb b hyphen && positive bs
 
-unfoldable pub naturalForm : List ℕ → Bool
-naturalForm bs = zeroAlone bs || positive bs
+unfoldable pub natural_form : List ℕ → Bool
+natural_form bs = zero_alone bs || positive bs
 
-unfoldable pub integerForm : List ℕ → Bool
-integerForm bs = naturalForm bs || negative bs
+unfoldable pub integer_form : List ℕ → Bool
+integer_form bs = natural_form bs || negative bs
 
 -- `-` alone
 unfoldable pub dash : List ℕ → Bool
@@ -57,30 +57,30 @@ dash (b ∷ bs) = eqb b hyphen && none bs
 -- ---- the value, "in base ten"
 
 -- of digits that follow those of the value v
-unfoldable pub valueFrom : ℕ → List ℕ → ℕ
-valueFrom v [] = v
-valueFrom v (b ∷ bs) = valueFrom (v * 10 + (b - digit0)) bs
+unfoldable pub value_from : ℕ → List ℕ → ℕ
+value_from v [] = v
+value_from v (b ∷ bs) = value_from (v * 10 + (b - digit0)) bs
 
 unfoldable pub value_of : List ℕ → ℕ
-value_of bs = valueFrom 0 bs
+value_of bs = value_from 0 bs
 
-unfoldable pub integerValue : List ℕ → ℤ
-integerValue [] = pos 0
-integerValue (b ∷ bs) = cond (eqb b hyphen) (neg_ℤ (pos (value_of bs))) (pos (value_of (b ∷ bs)))
+unfoldable pub integer_value : List ℕ → ℤ
+integer_value [] = pos 0
+integer_value (b ∷ bs) = cond (eqb b hyphen) (neg_ℤ (pos (value_of bs))) (pos (value_of (b ∷ bs)))
 
 -- ---- the answer: the value, not of the number form, or outside its range
 
-unfoldable pub inNaturalRange : ℕ → ℕ → ℕ → NaturalAnswer
-inNaturalRange low high v = cond (leb low v && leb v high) (Natural v) (NoNatural Range)
+unfoldable pub in_natural_range : ℕ → ℕ → ℕ → NaturalAnswer
+in_natural_range low high v = cond (leb low v && leb v high) (Natural v) (NoNatural Range)
 
 -- for an unsigned number from low to high
-unfoldable pub naturalOf : ℕ → ℕ → List ℕ → NaturalAnswer
-naturalOf low high bs = cond (naturalForm bs) (inNaturalRange low high (value_of bs)) (NoNatural Form)
+unfoldable pub natural_of : ℕ → ℕ → List ℕ → NaturalAnswer
+natural_of low high bs = cond (natural_form bs) (in_natural_range low high (value_of bs)) (NoNatural Form)
 
 -- −2147483648 to 2147483647
-unfoldable pub inSignedRange : ℤ → IntegerAnswer
-inSignedRange z = cond (le_z (negsuc 2147483647) z && le_z z (pos 2147483647)) (Integer z) (NoInteger Range)
+unfoldable pub in_signed_range : ℤ → IntegerAnswer
+in_signed_range z = cond (le_z (negsuc 2147483647) z && le_z z (pos 2147483647)) (Integer z) (NoInteger Range)
 
 -- for a reading or k
-unfoldable pub integerOf : List ℕ → IntegerAnswer
-integerOf bs = cond (integerForm bs) (inSignedRange (integerValue bs)) (NoInteger Form)
+unfoldable pub integer_of : List ℕ → IntegerAnswer
+integer_of bs = cond (integer_form bs) (in_signed_range (integer_value bs)) (NoInteger Form)

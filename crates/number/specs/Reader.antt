@@ -2,7 +2,7 @@
 -- running value but no bytes.
 use Rattle.std.specs.Prelude.{◌≡◌, Bool, true, false, cond, List, [], ◌∷◌, ◌++◌, ℕ, ◌+◌, ◌-◌, ◌*◌, ◌<◌, ltb, eqb, pos, neg_ℤ}
 use Rattle.number.specs.Types.{Reader, Empty, Minus, Zero, Digits, Malformed, Form, NaturalAnswer, NoNatural, IntegerAnswer, NoInteger}
-use Rattle.number.specs.Number.{digit0, hyphen, digit, dash, inNaturalRange, naturalOf, inSignedRange, integerOf}
+use Rattle.number.specs.Number.{digit0, hyphen, digit, dash, in_natural_range, natural_of, in_signed_range, integer_of}
 
 -- ---- a step
 
@@ -15,13 +15,13 @@ unfoldable pub extended : ℕ → ℕ → ℕ
 extended v d = cond (ltb v bound) (v * 10 + d) v
 
 -- a byte where the non-zero digit is to stand
-unfoldable pub firstDigit : Bool → ℕ → Reader
-firstDigit n b = cond (eqb b digit0) Malformed (cond (digit b) (Digits n (b - digit0)) Malformed)
+unfoldable pub first_digit : Bool → ℕ → Reader
+first_digit n b = cond (eqb b digit0) Malformed (cond (digit b) (Digits n (b - digit0)) Malformed)
 
 -- the reader after one byte more
 unfoldable pub pushed : Reader → ℕ → Reader
-pushed Empty b = cond (eqb b hyphen) Minus (cond (eqb b digit0) Zero (firstDigit false b))
-pushed Minus b = firstDigit true b
+pushed Empty b = cond (eqb b hyphen) Minus (cond (eqb b digit0) Zero (first_digit false b))
+pushed Minus b = first_digit true b
 pushed Zero b = Malformed
 pushed (Digits n v) b = cond (digit b) (Digits n (extended v (b - digit0))) Malformed
 pushed Malformed b = Malformed
@@ -33,37 +33,37 @@ after r (b ∷ bs) = after (pushed r b) bs
 
 -- ---- what the reader answers
 
-unfoldable pub naturalIn : ℕ → ℕ → Reader → NaturalAnswer
-naturalIn low high Empty = NoNatural Form
-naturalIn low high Minus = NoNatural Form
-naturalIn low high Zero = inNaturalRange low high 0
-naturalIn low high (Digits true v) = NoNatural Form
-naturalIn low high (Digits false v) = inNaturalRange low high v
-naturalIn low high Malformed = NoNatural Form
+unfoldable pub natural_in : ℕ → ℕ → Reader → NaturalAnswer
+natural_in low high Empty = NoNatural Form
+natural_in low high Minus = NoNatural Form
+natural_in low high Zero = in_natural_range low high 0
+natural_in low high (Digits true v) = NoNatural Form
+natural_in low high (Digits false v) = in_natural_range low high v
+natural_in low high Malformed = NoNatural Form
 
-unfoldable pub integerIn : Reader → IntegerAnswer
-integerIn Empty = NoInteger Form
-integerIn Minus = NoInteger Form
-integerIn Zero = inSignedRange (pos 0)
-integerIn (Digits true v) = inSignedRange (neg_ℤ (pos v))
-integerIn (Digits false v) = inSignedRange (pos v)
-integerIn Malformed = NoInteger Form
+unfoldable pub integer_in : Reader → IntegerAnswer
+integer_in Empty = NoInteger Form
+integer_in Minus = NoInteger Form
+integer_in Zero = in_signed_range (pos 0)
+integer_in (Digits true v) = in_signed_range (neg_ℤ (pos v))
+integer_in (Digits false v) = in_signed_range (pos v)
+integer_in Malformed = NoInteger Form
 
 -- the bytes are `-` alone
-unfoldable pub dashIn : Reader → Bool
-dashIn Empty = false
-dashIn Minus = true
-dashIn Zero = false
-dashIn (Digits n v) = false
-dashIn Malformed = false
+unfoldable pub dash_in : Reader → Bool
+dash_in Empty = false
+dash_in Minus = true
+dash_in Zero = false
+dash_in (Digits n v) = false
+dash_in Malformed = false
 
 -- ---- what is proved of it, in proofs/Answers and proofs/Once
 
 -- document 01's answer for the bytes so far, unsigned and signed
 pub record AnswersExactly (bs : List ℕ) : Type 0 where
-  pub natural : (low high : ℕ) → high < bound → naturalIn low high (after Empty bs) ≡ naturalOf low high bs
-  pub integer : integerIn (after Empty bs) ≡ integerOf bs
-  pub dashed : dashIn (after Empty bs) ≡ dash bs
+  pub natural : (low high : ℕ) → high < bound → natural_in low high (after Empty bs) ≡ natural_of low high bs
+  pub integer : integer_in (after Empty bs) ≡ integer_of bs
+  pub dashed : dash_in (after Empty bs) ≡ dash bs
 
 -- document 02, "Read each digit a single time"
 pub record ReadsOnce : Type 0 where

@@ -4,13 +4,13 @@ use Rattle.std.specs.Prelude.{cond, List, [], ◌∷◌, ◌++◌, ℕ, zero, su
 use Rattle.number.specs.Number.{digit0, hyphen}
 
 -- the digits of n, of which there are at most k
-unfoldable pub digitsIn : ℕ → ℕ → List ℕ
-digitsIn zero n = []
-digitsIn (suc k) n = cond (ltb n 10) ((digit0 + n) ∷ []) (digitsIn k (n / 10) ++ ((digit0 + n % 10) ∷ []))
+unfoldable pub digits_in : ℕ → ℕ → List ℕ
+digits_in zero n = []
+digits_in (suc k) n = cond (ltb n 10) ((digit0 + n) ∷ []) (digits_in k (n / 10) ++ ((digit0 + n % 10) ∷ []))
 
-unfoldable pub digitsOf : ℕ → List ℕ
-digitsOf n = digitsIn (suc n) n
+unfoldable pub digits_of : ℕ → List ℕ
+digits_of n = digits_in (suc n) n
 
-unfoldable pub integerText : ℤ → List ℕ
-integerText (pos n) = digitsOf n
-integerText (negsuc n) = hyphen ∷ digitsOf (suc n)
+unfoldable pub integer_text : ℤ → List ℕ
+integer_text (pos n) = digits_of n
+integer_text (negsuc n) = hyphen ∷ digits_of (suc n)

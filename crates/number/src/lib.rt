@@ -1,10 +1,10 @@
 // Document 01's numbers, read a byte at a time: each byte once, a running value and no bytes kept.
 ghost use Rattle.std.specs.Prelude.{◌≡◌, ◌<◌, pos, neg_ℤ};
-ghost use Rattle.number.specs.Number.{digit, inNaturalRange, inSignedRange};
-ghost use Rattle.number.specs.Reader.{extended, firstDigit, pushed, naturalIn, integerIn, dashIn};
+ghost use Rattle.number.specs.Number.{digit, in_natural_range, in_signed_range};
+ghost use Rattle.number.specs.Reader.{extended, first_digit, pushed, natural_in, integer_in, dash_in};
 
 // What the bytes so far are.
-#[derive(Drop)]
+#[derive(Clone, Copy)]
 pub enum Reader {
     Empty,
     Minus,
@@ -14,19 +14,19 @@ pub enum Reader {
 }
 
 // Why bytes are not a number that may stand here: not of the number form, or outside its range.
-#[derive(Drop)]
+#[derive(Clone, Copy)]
 pub enum Fault {
     Form,
     Range,
 }
 
-#[derive(Drop)]
+#[derive(Clone, Copy)]
 pub enum NaturalAnswer {
     Natural(u32),
     NoNatural(Fault),
 }
 
-#[derive(Drop)]
+#[derive(Clone, Copy)]
 pub enum IntegerAnswer {
     Integer(i32),
     NoInteger(Fault),
@@ -54,7 +54,7 @@ fn extend(value: u64, digit: u64) -> u64
 }
 
 fn first_digit(negative: bool, byte: u8) -> Reader
-    ensures { result ≡ firstDigit negative byte }
+    ensures { result ≡ first_digit negative byte }
 {
     if byte == b'0' {
         Reader::Malformed
@@ -81,7 +81,7 @@ fn next_digit(negative: bool, value: u64, byte: u8) -> Reader
 }
 
 fn natural_answer(low: u32, high: u32, value: u64) -> NaturalAnswer
-    ensures { result ≡ inNaturalRange low high value }
+    ensures { result ≡ in_natural_range low high value }
 {
     if value < low as u64 {
         NaturalAnswer::NoNatural(Fault::Range)
@@ -93,7 +93,7 @@ fn natural_answer(low: u32, high: u32, value: u64) -> NaturalAnswer
 }
 
 fn negative_answer(value: u64) -> IntegerAnswer
-    ensures { result ≡ inSignedRange (neg_ℤ (pos value)) }
+    ensures { result ≡ in_signed_range (neg_ℤ (pos value)) }
 {
     if value <= 2147483648 {
         IntegerAnswer::Integer((0 - (value as i64)) as i32)
@@ -103,7 +103,7 @@ fn negative_answer(value: u64) -> IntegerAnswer
 }
 
 fn positive_answer(value: u64) -> IntegerAnswer
-    ensures { result ≡ inSignedRange (pos value) }
+    ensures { result ≡ in_signed_range (pos value) }
 {
     if value <= 2147483647 {
         IntegerAnswer::Integer(value as i32)
@@ -142,7 +142,7 @@ impl Reader {
 
     // The bytes as an unsigned number from `low` to `high`.
     pub fn natural(self, low: u32, high: u32) -> NaturalAnswer
-        ensures { result ≡ naturalIn low high self }
+        ensures { result ≡ natural_in low high self }
     {
         match self {
             Reader::Empty => NaturalAnswer::NoNatural(Fault::Form),
@@ -161,7 +161,7 @@ impl Reader {
 
     // The bytes as a signed number, of a reading or a constant.
     pub fn integer(self) -> IntegerAnswer
-        ensures { result ≡ integerIn self }
+        ensures { result ≡ integer_in self }
     {
         match self {
             Reader::Empty => IntegerAnswer::NoInteger(Fault::Form),
@@ -180,7 +180,7 @@ impl Reader {
 
     // The bytes are `-` alone.
     pub fn is_dash(self) -> bool
-        ensures { result ≡ dashIn self }
+        ensures { result ≡ dash_in self }
     {
         match self {
             Reader::Empty => false,

@@ -7,45 +7,45 @@ use native.Mathlib.Omega.{arith}
 use lib.ListN.{length}
 use Rattle.declare.specs.declared.Refusal.{Refusal}
 use Rattle.declare.specs.Refusals.{number_of}
-use Rattle.run.specs.Records.{validRun}
-use Rattle.line.specs.Texts.{writtenLine}
+use Rattle.run.specs.Records.{valid_run}
+use Rattle.line.specs.Texts.{written_line}
 use Rattle.line.proofs.Texts.{written_one}
 use Rattle.notebook.specs.declared.Text.{Text}
 use Rattle.notebook.specs.declared.Outcome.TheVariants.{Closed, Refused}
 use Rattle.notebook.specs.declared.Notebook.{Notebook}
-use Rattle.notebook.specs.Notebook.{readAs, notRead, outcomeReply, notebookReply, notebookOf}
-use Rattle.notebook.proofs.Read.{read-valid, refused-at}
-use Rattle.printing.specs.Lines.{refusedLine, lineFields}
-use Rattle.printing.specs.Report.{reportOf, word_of, replyLines, printedLines, printedOf}
-use Rattle.printing.specs.Printing.{printedBytes}
-use Rattle.printing.proofs.Room.{refused-within, report-within}
+use Rattle.notebook.specs.Notebook.{read_as, not_read, outcome_reply, notebook_reply, notebook_of}
+use Rattle.notebook.proofs.Read.{read_valid, refused_at}
+use Rattle.printing.specs.Lines.{refused_line, line_fields}
+use Rattle.printing.specs.Report.{report_of, word_of, reply_lines, printed_lines, printed_of}
+use Rattle.printing.specs.Printing.{printed_bytes}
+use Rattle.printing.proofs.Room.{refused_within, report_within}
 
-module _ (rules cycle : List ℕ) (read : Notebook) (replies : notebookReply read ≡ notebookOf rules cycle) where
+module _ (rules cycle : List ℕ) (read : Notebook) (replies : notebook_reply read ≡ notebook_of rules cycle) where
   module _ (closed : read.outcome ≡ Closed) where
-    closed-reply : notebookOf rules cycle ≡ readAs read.run
-    unfolding notebookReply outcomeReply
-    closed-reply = sym replies ∙ ap (outcomeReply read.run) closed
+    closed_reply : notebook_of rules cycle ≡ read_as read.run
+    unfolding notebook_reply outcome_reply
+    closed_reply = sym replies ∙ ap (outcome_reply read.run) closed
 
-    pub closed-valid : validRun read.run ≡ true
-    closed-valid = read-valid rules cycle read.run closed-reply
+    pub closed_valid : valid_run read.run ≡ true
+    closed_valid = read_valid rules cycle read.run closed_reply
 
-    pub closed-printed : reportOf read.run ≡ printedOf rules cycle
-    unfolding reportOf printedOf printedLines replyLines
-    closed-printed = rw closed-reply
+    pub closed_printed : report_of read.run ≡ printed_of rules cycle
+    unfolding report_of printed_of printed_lines reply_lines
+    closed_printed = rw closed_reply
 
-    pub closed-few : length (printedOf rules cycle) ≤ printedBytes
-    closed-few = rw (← closed-printed) (report-within read.run closed-valid).most
+    pub closed_few : length (printed_of rules cycle) ≤ printed_bytes
+    closed_few = rw (← closed_printed) (report_within read.run closed_valid).most
 
   module _ (text : Text) (cause : Refusal) (line : ℕ) (refused : read.outcome ≡ Refused text cause line) where
-    pub refused-reply : notebookOf rules cycle ≡ notRead text (number_of cause) line
-    unfolding notebookReply outcomeReply
-    refused-reply = sym replies ∙ ap (outcomeReply read.run) refused
+    pub refused_reply : notebook_of rules cycle ≡ not_read text (number_of cause) line
+    unfolding notebook_reply outcome_reply
+    refused_reply = sym replies ∙ ap (outcome_reply read.run) refused
 
-    pub refused-printed : writtenLine lineFields (refusedLine (word_of text) (number_of cause) line) ≡ printedOf rules cycle
-    unfolding printedOf printedLines replyLines
-    refused-printed = rw refused-reply (sym (written_one lineFields _))
+    pub refused_printed : written_line line_fields (refused_line (word_of text) (number_of cause) line) ≡ printed_of rules cycle
+    unfolding printed_of printed_lines reply_lines
+    refused_printed = rw refused_reply (sym (written_one line_fields _))
 
-    pub refused-few : number_of cause < 256 → length (printedOf rules cycle) ≤ printedBytes
-    refused-few h =
-        let l = refused-at rules cycle text (number_of cause) line refused-reply in
-        rw (← refused-printed) (omega (arith, (refused-within text (number_of cause) line (omega arith) (omega arith)).most))
+    pub refused_few : number_of cause < 256 → length (printed_of rules cycle) ≤ printed_bytes
+    refused_few h =
+        let l = refused_at rules cycle text (number_of cause) line refused_reply in
+        rw (← refused_printed) (omega (arith, (refused_within text (number_of cause) line (omega arith) (omega arith)).most))

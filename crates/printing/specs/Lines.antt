@@ -1,44 +1,44 @@
 -- The lines that `report` prints, by their fields.
 use Rattle.std.specs.Prelude.{List, [], ◌∷◌, ℕ}
-use Rattle.number.specs.Written.{digitsOf}
+use Rattle.number.specs.Written.{digits_of}
 
 pub data PrintedLine : Type 0 where
   -- "rule, position, F or V, target"
-  activationLine : ℕ → ℕ → ℕ → ℕ → PrintedLine
+  activation_line : ℕ → ℕ → ℕ → ℕ → PrintedLine
   -- "`total`, rule, activations, fulfilled, violated"
-  totalLine : ℕ → ℕ → ℕ → ℕ → PrintedLine
+  total_line : ℕ → ℕ → ℕ → ℕ → PrintedLine
   -- "`refused`, `rules` or `cycle`, number, line"
-  refusedLine : List ℕ → ℕ → ℕ → PrintedLine
+  refused_line : List ℕ → ℕ → ℕ → PrintedLine
 
 -- `F`, `V`, and `O` for an activation that is open, which a closed run does not have
-abbrev pub letterF : ℕ
-letterF = 70
+abbrev pub letter_f : ℕ
+letter_f = 70
 
-abbrev pub letterV : ℕ
-letterV = 86
+abbrev pub letter_v : ℕ
+letter_v = 86
 
-abbrev pub letterO : ℕ
-letterO = 79
+abbrev pub letter_o : ℕ
+letter_o = 79
 
 -- `total`
-abbrev pub totalWord : List ℕ
-totalWord = 116 ∷ 111 ∷ 116 ∷ 97 ∷ 108 ∷ []
+abbrev pub total_word : List ℕ
+total_word = 116 ∷ 111 ∷ 116 ∷ 97 ∷ 108 ∷ []
 
 -- `refused`
-abbrev pub refusedWord : List ℕ
-refusedWord = 114 ∷ 101 ∷ 102 ∷ 117 ∷ 115 ∷ 101 ∷ 100 ∷ []
+abbrev pub refused_word : List ℕ
+refused_word = 114 ∷ 101 ∷ 102 ∷ 117 ∷ 115 ∷ 101 ∷ 100 ∷ []
 
 -- `rules`
-abbrev pub rulesWord : List ℕ
-rulesWord = 114 ∷ 117 ∷ 108 ∷ 101 ∷ 115 ∷ []
+abbrev pub rules_word : List ℕ
+rules_word = 114 ∷ 117 ∷ 108 ∷ 101 ∷ 115 ∷ []
 
 -- `cycle`
-abbrev pub cycleWord : List ℕ
-cycleWord = 99 ∷ 121 ∷ 99 ∷ 108 ∷ 101 ∷ []
+abbrev pub cycle_word : List ℕ
+cycle_word = 99 ∷ 121 ∷ 99 ∷ 108 ∷ 101 ∷ []
 
-unfoldable pub lineFields : PrintedLine → List (List ℕ)
-lineFields (activationLine rule position letter target) =
-    digitsOf rule ∷ digitsOf position ∷ (letter ∷ []) ∷ digitsOf target ∷ []
-lineFields (totalLine rule activations fulfilled violated) =
-    totalWord ∷ digitsOf rule ∷ digitsOf activations ∷ digitsOf fulfilled ∷ digitsOf violated ∷ []
-lineFields (refusedLine word number line) = refusedWord ∷ word ∷ digitsOf number ∷ digitsOf line ∷ []
+unfoldable pub line_fields : PrintedLine → List (List ℕ)
+line_fields (activation_line rule position letter target) =
+    digits_of rule ∷ digits_of position ∷ (letter ∷ []) ∷ digits_of target ∷ []
+line_fields (total_line rule activations fulfilled violated) =
+    total_word ∷ digits_of rule ∷ digits_of activations ∷ digits_of fulfilled ∷ digits_of violated ∷ []
+line_fields (refused_line word number line) = refused_word ∷ word ∷ digits_of number ∷ digits_of line ∷ []

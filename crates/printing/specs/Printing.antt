@@ -3,27 +3,27 @@
 use Rattle.std.specs.Prelude.{true, List, ℕ, ◌≤◌, length}
 use Rattle.declare.specs.Answers.{Answer}
 use Rattle.run.specs.declared.Run.{Run}
-use Rattle.run.specs.Records.{validRun}
+use Rattle.run.specs.Records.{valid_run}
 use Rattle.buffer.specs.declared.WriteAnswer.{WriteAnswer}
-use Rattle.buffer.specs.Writes.{writeOf, Writes}
-use Rattle.printing.specs.Report.{reportOf, printedOf}
+use Rattle.buffer.specs.Writes.{write_of, Writes}
+use Rattle.printing.specs.Report.{report_of, printed_of}
 
 -- the most bytes that are printed: 16 rules of 256 lines of 13 bytes and one of 21
-abbrev pub printedBytes : ℕ
-printedBytes = 53792
+abbrev pub printed_bytes : ℕ
+printed_bytes = 53792
 
 -- the call write_report: its answer, and what it leaves
-abbrev pub writeReportOf : Run → List ℕ → Answer ℕ
-writeReportOf r buffer = writeOf (validRun r) (reportOf r) buffer
+abbrev pub write_report_of : Run → List ℕ → Answer ℕ
+write_report_of r buffer = write_of (valid_run r) (report_of r) buffer
 
 abbrev pub WritesReport : Run → List ℕ → List ℕ → WriteAnswer → Type 0
-WritesReport r before after answer = Writes (validRun r) (reportOf r) before after answer
+WritesReport r before after answer = Writes (valid_run r) (report_of r) before after answer
 
 -- the call print_texts
-abbrev pub printTextsOf : List ℕ → List ℕ → List ℕ → Answer ℕ
-printTextsOf rules cycle buffer = writeOf true (printedOf rules cycle) buffer
+abbrev pub print_texts_of : List ℕ → List ℕ → List ℕ → Answer ℕ
+print_texts_of rules cycle buffer = write_of true (printed_of rules cycle) buffer
 
 pub record PrintsTexts (rules cycle before after : List ℕ) (answer : WriteAnswer) : Type 0 where
-  pub writes : Writes true (printedOf rules cycle) before after answer
+  pub writes : Writes true (printed_of rules cycle) before after answer
   -- a buffer of so many bytes is never too short
-  pub few : length (printedOf rules cycle) ≤ printedBytes
+  pub few : length (printed_of rules cycle) ≤ printed_bytes

@@ -5,64 +5,64 @@ use Rattle.std.specs.Prelude.{List, [], ◌∷◌, ◌++◌, ℕ, zero, suc}
 use Rattle.declare.specs.declared.Standing.{Standing}
 use Rattle.declare.specs.declared.Standing.TheVariants.{Idle, Open, Fulfilled, Violated}
 use Rattle.standings.specs.declared.totals.Totals.{Totals}
-use Rattle.standings.specs.Totals.{totalsBy}
+use Rattle.standings.specs.Totals.{totals_by}
 use Rattle.run.specs.declared.Run.{Run}
-use Rattle.run.specs.Records.{standingAt}
-use Rattle.line.specs.Texts.{writtenText}
+use Rattle.run.specs.Records.{standing_at}
+use Rattle.line.specs.Texts.{written_text}
 use Rattle.notebook.specs.declared.Text.{Text}
 use Rattle.notebook.specs.declared.Text.TheVariants.{Rules, Cycle}
-use Rattle.notebook.specs.Notebook.{Reply, readAs, notRead, notebookOf}
-use Rattle.printing.specs.Lines.{PrintedLine, activationLine, totalLine, refusedLine, letterF, letterV, letterO, rulesWord, cycleWord, lineFields}
+use Rattle.notebook.specs.Notebook.{Reply, read_as, not_read, notebook_of}
+use Rattle.printing.specs.Lines.{PrintedLine, activation_line, total_line, refused_line, letter_f, letter_v, letter_o, rules_word, cycle_word, line_fields}
 
 -- ---- of a run
 
 -- the line of position i under rule k, if it is an activation; no target is named while it is open
-unfoldable pub positionLines : ℕ → ℕ → Standing → List PrintedLine
-positionLines k i Idle = []
-positionLines k i Open = activationLine k i letterO 0 ∷ []
-positionLines k i (Fulfilled j) = activationLine k i letterF j ∷ []
-positionLines k i (Violated j) = activationLine k i letterV j ∷ []
+unfoldable pub position_lines : ℕ → ℕ → Standing → List PrintedLine
+position_lines k i Idle = []
+position_lines k i Open = activation_line k i letter_o 0 ∷ []
+position_lines k i (Fulfilled j) = activation_line k i letter_f j ∷ []
+position_lines k i (Violated j) = activation_line k i letter_v j ∷ []
 
 -- the lines of 1 to n, one after another
-unfoldable pub linesUpTo : (ℕ → List PrintedLine) → ℕ → List PrintedLine
-linesUpTo f zero = []
-linesUpTo f (suc n) = linesUpTo f n ++ f (suc n)
+unfoldable pub lines_up_to : (ℕ → List PrintedLine) → ℕ → List PrintedLine
+lines_up_to f zero = []
+lines_up_to f (suc n) = lines_up_to f n ++ f (suc n)
 
 -- of the positions 1 to n, whose standings are s
-unfoldable pub eventLines : ℕ → (ℕ → Standing) → ℕ → List PrintedLine
-eventLines k s n = linesUpTo (λ i. positionLines k i (s i)) n
+unfoldable pub event_lines : ℕ → (ℕ → Standing) → ℕ → List PrintedLine
+event_lines k s n = lines_up_to (λ i. position_lines k i (s i)) n
 
 -- "a line per activation in order of position", a rule about the cycle "as position 0"
-unfoldable pub activationLines : ℕ → (ℕ → Standing) → ℕ → List PrintedLine
-activationLines k s n = positionLines k 0 (s 0) ++ eventLines k s n
+unfoldable pub activation_lines : ℕ → (ℕ → Standing) → ℕ → List PrintedLine
+activation_lines k s n = position_lines k 0 (s 0) ++ event_lines k s n
 
 unfoldable pub total_of : ℕ → Totals → PrintedLine
-total_of k t = totalLine k t.activations t.fulfilled t.violated
+total_of k t = total_line k t.activations t.fulfilled t.violated
 
 -- "and then `total`"
-unfoldable pub ruleLines : ℕ → (ℕ → Standing) → ℕ → List PrintedLine
-ruleLines k s n = activationLines k s n ++ (total_of k (totalsBy s n) ∷ [])
+unfoldable pub rule_lines : ℕ → (ℕ → Standing) → ℕ → List PrintedLine
+rule_lines k s n = activation_lines k s n ++ (total_of k (totals_by s n) ∷ [])
 
 -- "rule by rule"
-unfoldable pub reportLines : Run → List PrintedLine
-reportLines r = linesUpTo (λ k. ruleLines k (standingAt r k) r.count) r.table.count
+unfoldable pub report_lines : Run → List PrintedLine
+report_lines r = lines_up_to (λ k. rule_lines k (standing_at r k) r.count) r.table.count
 
-unfoldable pub reportOf : Run → List ℕ
-reportOf r = writtenText lineFields (reportLines r)
+unfoldable pub report_of : Run → List ℕ
+report_of r = written_text line_fields (report_lines r)
 
 -- ---- of two texts
 
 unfoldable pub word_of : Text → List ℕ
-word_of Rules = rulesWord
-word_of Cycle = cycleWord
+word_of Rules = rules_word
+word_of Cycle = cycle_word
 
-unfoldable pub replyLines : Reply → List PrintedLine
-replyLines (readAs r) = reportLines r
-replyLines (notRead text number line) = refusedLine (word_of text) number line ∷ []
+unfoldable pub reply_lines : Reply → List PrintedLine
+reply_lines (read_as r) = report_lines r
+reply_lines (not_read text number line) = refused_line (word_of text) number line ∷ []
 
-unfoldable pub printedLines : List ℕ → List ℕ → List PrintedLine
-printedLines rules cycle = replyLines (notebookOf rules cycle)
+unfoldable pub printed_lines : List ℕ → List ℕ → List PrintedLine
+printed_lines rules cycle = reply_lines (notebook_of rules cycle)
 
 -- what `report` prints for two texts that it has read from files
-unfoldable pub printedOf : List ℕ → List ℕ → List ℕ
-printedOf rules cycle = writtenText lineFields (printedLines rules cycle)
+unfoldable pub printed_of : List ℕ → List ℕ → List ℕ
+printed_of rules cycle = written_text line_fields (printed_lines rules cycle)

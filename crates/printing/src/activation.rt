@@ -1,7 +1,7 @@
 // The lines of activations: rule, position, letter, target.
-ghost use Rattle.line.specs.Texts.{writtenLine, writtenText};
-ghost use Rattle.printing.specs.Lines.{activationLine, lineFields};
-ghost use Rattle.printing.specs.Report.{positionLines};
+ghost use Rattle.line.specs.Texts.{written_line, written_text};
+ghost use Rattle.printing.specs.Lines.{activation_line, line_fields};
+ghost use Rattle.printing.specs.Report.{position_lines};
 ghost use Rattle.buffer.specs.Puts.{Puts};
 
 use buffer::numbers::put_number_field;
@@ -17,7 +17,7 @@ fn put_activation(
     letter: u8,
     target: u16,
 ) -> usize
-    ensures { Puts (writtenLine lineFields (activationLine rule position letter target)) out.old at out.new result }
+    ensures { Puts (written_line line_fields (activation_line rule position letter target)) out.old at out.new result }
 {
     let at = put_number_field(out, at, rule, TAB);
     let at = put_number_field(out, at, position, TAB);
@@ -28,7 +28,7 @@ fn put_activation(
 
 // The line of a position, if it is an activation.
 pub fn put_position(out: &mut [u8], at: usize, rule: u32, position: u32, s: Standing) -> usize
-    ensures { Puts (writtenText lineFields (positionLines rule position s)) out.old at out.new result }
+    ensures { Puts (written_text line_fields (position_lines rule position s)) out.old at out.new result }
 {
     match s {
         Standing::Idle => at,

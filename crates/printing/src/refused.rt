@@ -1,7 +1,7 @@
 // The line of a refusal: `refused`, the word of the text, number, line.
 ghost use Rattle.std.specs.Prelude.{true};
-ghost use Rattle.line.specs.Texts.{writtenLine};
-ghost use Rattle.printing.specs.Lines.{refusedLine, lineFields};
+ghost use Rattle.line.specs.Texts.{written_line};
+ghost use Rattle.printing.specs.Lines.{refused_line, line_fields};
 ghost use Rattle.printing.specs.Report.{word_of};
 ghost use Rattle.buffer.specs.Puts.{Puts};
 ghost use Rattle.buffer.specs.Writes.{Writes};
@@ -17,7 +17,7 @@ const REFUSED_BYTES: usize = 29;
 
 // The line with any word, from the buffer's front on.
 pub fn put_refused(out: &mut [u8], word: &[u8], number: u8, line: u32) -> usize
-    ensures { Puts (writtenLine lineFields (refusedLine word.now number line)) out.old 0 out.new result }
+    ensures { Puts (written_line line_fields (refused_line word.now number line)) out.old 0 out.new result }
 {
     let at = put_bytes(out, 0, b"refused\t");
     let at = put_bytes(out, at, word);
@@ -27,7 +27,7 @@ pub fn put_refused(out: &mut [u8], word: &[u8], number: u8, line: u32) -> usize
 }
 
 fn put_word(out: &mut [u8], text: Text, number: u8, line: u32) -> usize
-    ensures { Puts (writtenLine lineFields (refusedLine (word_of text) number line)) out.old 0 out.new result }
+    ensures { Puts (written_line line_fields (refused_line (word_of text) number line)) out.old 0 out.new result }
 {
     match text {
         Text::Rules => put_refused(out, b"rules", number, line),
@@ -37,7 +37,7 @@ fn put_word(out: &mut [u8], text: Text, number: u8, line: u32) -> usize
 
 // The line of one of the two texts. Refused with 15.
 pub fn write_refused(text: Text, number: u8, line: u32, out: &mut [u8]) -> WriteAnswer
-    ensures { Writes true (writtenLine lineFields (refusedLine (word_of text) number line)) out.old out.new result }
+    ensures { Writes true (written_line line_fields (refused_line (word_of text) number line)) out.old out.new result }
 {
     let mut bytes = [0u8; REFUSED_BYTES];
     let length = put_word(&mut bytes, text, number, line);

@@ -1,11 +1,11 @@
 // The lines of rules: those of a rule's activations, then its totals.
 ghost use Rattle.std.specs.Prelude.{[], ◌∷◌, ◌++◌, ◌+◌, ◌≤◌};
-ghost use Rattle.declare.specs.Limits.{mostRules, mostEvents};
-ghost use Rattle.standings.specs.Places.{places, standingFrom, withZero};
-ghost use Rattle.standings.specs.Totals.{totalsBy};
-ghost use Rattle.line.specs.Texts.{writtenLine, writtenText};
-ghost use Rattle.printing.specs.Lines.{lineFields};
-ghost use Rattle.printing.specs.Report.{eventLines, total_of, reportOf};
+ghost use Rattle.declare.specs.Limits.{most_rules, most_events};
+ghost use Rattle.standings.specs.Places.{places, standing_from, with_zero};
+ghost use Rattle.standings.specs.Totals.{totals_by};
+ghost use Rattle.line.specs.Texts.{written_line, written_text};
+ghost use Rattle.printing.specs.Lines.{line_fields};
+ghost use Rattle.printing.specs.Report.{event_lines, total_of, report_of};
 ghost use Rattle.buffer.specs.Puts.{Puts};
 
 use crate::activation::put_position;
@@ -18,7 +18,7 @@ use standings::totals::{Totals, no_totals, with_standing};
 use standings::{Cell, PLACES, zero_in};
 
 fn put_total(out: &mut [u8], at: usize, rule: u32, totals: Totals) -> usize
-    ensures { Puts (writtenLine lineFields (total_of rule totals)) out.old at out.new result }
+    ensures { Puts (written_line line_fields (total_of rule totals)) out.old at out.new result }
 {
     let at = put_bytes(out, at, b"total\t");
     let at = put_number_field(out, at, rule, TAB);
@@ -38,8 +38,8 @@ fn put_events(
     count: usize,
     cells: [Cell; PLACES],
 ) -> usize
-    requires { (count ≤ mostEvents) × (first + count ≤ places) }
-    ensures { Puts (writtenText lineFields (eventLines rule (withZero zero (standingFrom cells first)) count ++ (total_of rule (totalsBy (withZero zero (standingFrom cells first)) count) ∷ []))) out.old start out.new result }
+    requires { (count ≤ most_events) × (first + count ≤ places) }
+    ensures { Puts (written_text line_fields (event_lines rule (with_zero zero (standing_from cells first)) count ++ (total_of rule (totals_by (with_zero zero (standing_from cells first)) count) ∷ []))) out.old start out.new result }
 {
     let mut at = start;
     let mut totals = with_standing(no_totals(), zero);
@@ -54,8 +54,8 @@ fn put_events(
 
 // The lines of all rules, from the buffer's front on: of each position 0 first.
 pub fn put_report(out: &mut [u8], run: Run) -> usize
-    requires { (run.table.count ≤ mostRules) × (run.count ≤ mostEvents) }
-    ensures { Puts (reportOf run) out.old 0 out.new result }
+    requires { (run.table.count ≤ most_rules) × (run.count ≤ most_events) }
+    ensures { Puts (report_of run) out.old 0 out.new result }
 {
     let table = run.table;
     let overall = run.overall;

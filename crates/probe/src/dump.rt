@@ -1,6 +1,6 @@
 // Standings, and the whole run.
 ghost use Rattle.std.specs.Prelude.{◌+◌, ◌≤◌, ◌<◌};
-ghost use Rattle.declare.specs.Limits.{mostRules, mostEvents};
+ghost use Rattle.declare.specs.Limits.{most_rules, most_events};
 ghost use Rattle.standings.specs.Places.{places};
 
 use crate::answer::{high, kind_of, low, target_of};
@@ -20,7 +20,7 @@ pub fn least(x: usize, y: usize) -> usize
 
 // The first n cells of a row.
 fn row_bytes(cells: [Cell; PLACES], base: usize, n: usize) -> [u8; 1024]
-    requires { (n ≤ mostEvents) × (base + n ≤ places) }
+    requires { (n ≤ most_events) × (base + n ≤ places) }
 {
     let mut out = [0u8; 1024];
     for p in 0..n {
@@ -36,7 +36,7 @@ fn row_bytes(cells: [Cell; PLACES], base: usize, n: usize) -> [u8; 1024]
 }
 
 fn write_row(cells: [Cell; PLACES], row: usize, n: usize)
-    requires { (n ≤ mostEvents) × (row < mostRules) }
+    requires { (n ≤ most_events) × (row < most_rules) }
 {
     let bytes = row_bytes(cells, row * EVENTS, n);
     let end = n * 4;
@@ -44,7 +44,7 @@ fn write_row(cells: [Cell; PLACES], row: usize, n: usize)
 }
 
 fn write_rows(cells: [Cell; PLACES], rows: usize, n: usize)
-    requires { (rows ≤ mostRules) × (n ≤ mostEvents) }
+    requires { (rows ≤ most_rules) × (n ≤ most_events) }
 {
     for row in 0..rows {
         write_row(cells, row, n);

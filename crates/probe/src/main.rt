@@ -17,7 +17,7 @@ mod written; // written.rt: texts written back
 mod printed; // printed.rt: texts that follow a command, printed
 mod day; // day.rt: the tally
 
-#[derive(Drop)]
+#[derive(Clone, Copy)]
 pub struct State {
     pub table: Table,
     pub run: Run,

@@ -3,15 +3,15 @@
 ghost use Rattle.std.specs.Prelude.{◌≡◌, true, false, take};
 ghost use Rattle.io.specs.Counts.{IsPrefixLen};
 ghost use Rattle.line.specs.Texts.{is_all};
-ghost use Rattle.rule_text.specs.Rules.{rulesTextOf};
-ghost use Rattle.printing.specs.Report.{printedOf};
+ghost use Rattle.rule_text.specs.Rules.{rules_text_of};
+ghost use Rattle.printing.specs.Report.{printed_of};
 
 use buffer::WriteAnswer;
 use files::FILE_BYTES;
 use printing::{PRINTED_BYTES, print_texts};
 
 fn are_accepted(rules: &[u8]) -> bool
-    ensures { result ≡ is_all (rulesTextOf rules.now) }
+    ensures { result ≡ is_all (rules_text_of rules.now) }
 {
     let read = rule_text::read_rules(rules);
     let outcome = read.outcome;
@@ -25,7 +25,7 @@ fn are_accepted(rules: &[u8]) -> bool
 // lost.
 fn printed(rules: &[u8], cycle: &[u8], out: &mut [u8; PRINTED_BYTES]) -> usize
     ensures prefix_len { IsPrefixLen result out.new }
-    ensures out_after { take result out.new ≡ printedOf rules.now cycle.now }
+    ensures out_after { take result out.new ≡ printed_of rules.now cycle.now }
 {
     match print_texts(rules, cycle, out) {
         WriteAnswer::Written(length) => length,
@@ -41,7 +41,7 @@ fn print(rules: &[u8], cycle: &[u8]) {
 
 // The cycle file is opened only after the rules are accepted.
 fn read_cycle(rules: &[u8])
-    requires { is_all (rulesTextOf rules.now) ≡ true }
+    requires { is_all (rules_text_of rules.now) ≡ true }
 {
     let mut cycle = [0u8; FILE_BYTES];
     let read = files::read_text(b"cycle.tsv", b"cycle", &mut cycle);
@@ -54,7 +54,7 @@ fn read_cycle(rules: &[u8])
 
 // What is printed of refused rules is the same for every cycle text.
 fn print_refused(rules: &[u8])
-    requires { is_all (rulesTextOf rules.now) ≡ false }
+    requires { is_all (rules_text_of rules.now) ≡ false }
 {
     print(rules, b"");
 }

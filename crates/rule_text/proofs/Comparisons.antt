@@ -14,12 +14,12 @@ use lib.Seq.{get_or-drop, drop-drop}
 use Rattle.declare.proofs.Booleans.{and_left}
 use Rattle.line.specs.Fields.{index_of, before}
 use Rattle.declare.specs.Answers.{Answer, accepted, refused, ◌>>=◌, ◌>>◌, require}
-use Rattle.line.proofs.Fields.{index-le}
-use Rattle.declare.proofs.Answers.{no_of, of-of, through}
+use Rattle.line.proofs.Fields.{index_le}
+use Rattle.declare.proofs.Answers.{no_of, of_of, through}
 use Rattle.rule_text.specs.Types.{Operator, Reference, Constant, Activation, Comparison}
 use Rattle.rule_text.specs.Conditions.{comma}
-use Rattle.rule_text.specs.Comparisons.{readingDigit, digitOf, operatorOf, kField, constantField, activationField, referenceField, comparisonField}
-use Rattle.rule_text.specs.Reads.{Measured, upToComma}
+use Rattle.rule_text.specs.Comparisons.{reading_digit, digit_of, operator_of, k_field, constant_field, activation_field, reference_field, comparison_field}
+use Rattle.rule_text.specs.Reads.{Measured, up_to_comma}
 
 -- ---- the field up to the comma
 
@@ -29,20 +29,20 @@ changed f g (accepted w) = accepted (record { value = f w.value; length = g w.le
 changed f g (refused m) = refused m
 
 -- what was read, and its length
-module _ {A : Type 0} (holds : List ℕ → Answer A) (s : List ℕ) (w : Measured A) (h : upToComma holds s ≡ accepted w) where
+module _ {A : Type 0} (holds : List ℕ → Answer A) (s : List ℕ) (w : Measured A) (h : up_to_comma holds s ≡ accepted w) where
   pub measured : (holds (before comma s) ≡ accepted w.value) × (index_of comma s ≡ w.length)
-  unfolding upToComma
+  unfolding up_to_comma
   measured =
       let t = through (holds (before comma s)) _ w h in
-      let e : record { value = t.value; length = index_of comma s } ≡ w = of-of t.rest in
+      let e : record { value = t.value; length = index_of comma s } ≡ w = of_of t.rest in
       (t.first ∙ ap (λ (v : Measured A). accepted v.value) e, ap (λ (v : Measured A). v.length) e)
 
-  pub length-le : w.length ≤ length s
-  length-le = rw (← measured.1) (index-le comma s)
+  pub length_le : w.length ≤ length s
+  length_le = rw (← measured.1) (index_le comma s)
 
-pub comma-refused : {A : Type 0} (holds : List ℕ → Answer A) (s : List ℕ) (n : ℕ) → upToComma holds s ≡ refused n → holds (before comma s) ≡ refused n
-unfolding upToComma ◌>>=◌
-comma-refused {A} holds s n h = go (holds (before comma s)) refl
+pub comma_refused : {A : Type 0} (holds : List ℕ → Answer A) (s : List ℕ) (n : ℕ) → up_to_comma holds s ≡ refused n → holds (before comma s) ≡ refused n
+unfolding up_to_comma ◌>>=◌
+comma_refused {A} holds s n h = go (holds (before comma s)) refl
   where
     go : (x : Answer A) → holds (before comma s) ≡ x → holds (before comma s) ≡ refused n
     go (refused m) p =
@@ -77,37 +77,37 @@ byte f z e (x ∷ s) b h = go (eqb x comma) refl
 
 -- ---- single bytes
 
-pub digit-is : (b : ℕ) → readingDigit b ≡ true → digitOf b ≡ accepted (b - 48)
-unfolding digitOf require ◌>>◌
-digit-is b h = rw h
+pub digit_is : (b : ℕ) → reading_digit b ≡ true → digit_of b ≡ accepted (b - 48)
+unfolding digit_of require ◌>>◌
+digit_is b h = rw h
 
-pub digit-none : (b : ℕ) → readingDigit b ≡ false → digitOf b ≡ refused 4
-unfolding digitOf require ◌>>◌
-digit-none b h = rw h
+pub digit_none : (b : ℕ) → reading_digit b ≡ false → digit_of b ≡ refused 4
+unfolding digit_of require ◌>>◌
+digit_none b h = rw h
 
-pub digit_low : (b : ℕ) → readingDigit b ≡ true → 48 ≤ b
-unfolding readingDigit
+pub digit_low : (b : ℕ) → reading_digit b ≡ true → 48 ≤ b
+unfolding reading_digit
 digit_low b h = omega (arith, leb-true 49 b (and_left (leb 49 b) (leb b 52) h))
 
-digit-zero : digitOf 0 ≡ refused 4
-unfolding readingDigit
-digit-zero = digit-none 0 refl
+digit_zero : digit_of 0 ≡ refused 4
+unfolding reading_digit
+digit_zero = digit_none 0 refl
 
-digit-comma : digitOf comma ≡ refused 4
-unfolding readingDigit
-digit-comma = digit-none comma refl
+digit_comma : digit_of comma ≡ refused 4
+unfolding reading_digit
+digit_comma = digit_none comma refl
 
-operator-zero : operatorOf 0 ≡ refused 4
-unfolding operatorOf
-operator-zero = refl
+operator_zero : operator_of 0 ≡ refused 4
+unfolding operator_of
+operator_zero = refl
 
-operator-comma : operatorOf comma ≡ refused 4
-unfolding operatorOf
-operator-comma = refl
+operator_comma : operator_of comma ≡ refused 4
+unfolding operator_of
+operator_comma = refl
 
 -- `:`
-unfoldable colonOf : ℕ → Answer (Unit {0})
-colonOf b = require (eqb b 58) 4
+unfoldable colon_of : ℕ → Answer (Unit {0})
+colon_of b = require (eqb b 58) 4
 
 -- `@`
 unfoldable at_of : ℕ → Answer (Unit {0})
@@ -115,11 +115,11 @@ at_of b = require (eqb b 64) 4
 
 -- ---- references
 
-pub constant-part : (s : List ℕ) → upToComma constantField s ≡ changed Constant (λ n. n) (upToComma kField s)
-unfolding constantField upToComma ◌>>=◌ changed
-constant-part s = go (kField (before comma s)) refl
+pub constant_part : (s : List ℕ) → up_to_comma constant_field s ≡ changed Constant (λ n. n) (up_to_comma k_field s)
+unfolding constant_field up_to_comma ◌>>=◌ changed
+constant_part s = go (k_field (before comma s)) refl
   where
-    go : (x : Answer ℤ) → kField (before comma s) ≡ x → upToComma constantField s ≡ changed Constant (λ n. n) (upToComma kField s)
+    go : (x : Answer ℤ) → k_field (before comma s) ≡ x → up_to_comma constant_field s ≡ changed Constant (λ n. n) (up_to_comma k_field s)
     go (refused n) p = rw p
     go (accepted k) p = rw p
 
@@ -130,42 +130,42 @@ module _ (s : List ℕ) where
   third : drop 1 (drop 1 s) ≡ drop 2 s
   third = drop-drop 1 1 s
 
-  pub activation-no-digit : digitOf (get_or s 0 0) ≡ refused 4 → upToComma activationField s ≡ refused 4
-  unfolding activationField upToComma ◌>>=◌
-  activation-no-digit h = rw (first_byte digitOf s (digit-zero ∙ sym digit-comma), h)
+  pub activation_no_digit : digit_of (get_or s 0 0) ≡ refused 4 → up_to_comma activation_field s ≡ refused 4
+  unfolding activation_field up_to_comma ◌>>=◌
+  activation_no_digit h = rw (first_byte digit_of s (digit_zero ∙ sym digit_comma), h)
 
-  module _ (g : ℕ) (h : digitOf (get_or s 0 0) ≡ accepted g) where
-    pub activation-no-colon : eqb (get_or s 1 0) 58 ≡ false → upToComma activationField s ≡ refused 4
-    unfolding activationField upToComma ◌>>=◌ ◌>>◌ require
-    activation-no-colon k =
-        rw ((byte digitOf digit-zero digit-comma s g h).fields, h, first_byte (λ b. eqb b 58) (drop 1 s) refl, second, k)
+  module _ (g : ℕ) (h : digit_of (get_or s 0 0) ≡ accepted g) where
+    pub activation_no_colon : eqb (get_or s 1 0) 58 ≡ false → up_to_comma activation_field s ≡ refused 4
+    unfolding activation_field up_to_comma ◌>>=◌ ◌>>◌ require
+    activation_no_colon k =
+        rw ((byte digit_of digit_zero digit_comma s g h).fields, h, first_byte (λ b. eqb b 58) (drop 1 s) refl, second, k)
 
-    pub activation-part : eqb (get_or s 1 0) 58 ≡ true → upToComma activationField s ≡ changed (Activation g) (λ n. n + 2) (upToComma kField (drop 2 s))
-    unfolding activationField upToComma ◌>>=◌ ◌>>◌ require changed colonOf
-    activation-part k =
-        let colon : colonOf (get_or (drop 1 s) 0 0) ≡ accepted tt = rw (second, k) in
-        let v = byte digitOf digit-zero digit-comma s g h in
-        let w = byte colonOf refl refl (drop 1 s) tt colon in
-        rw (v.fields, v.index, w.fields, w.index, h, second, k, third) (go (kField (before comma (drop 2 s))))
+    pub activation_part : eqb (get_or s 1 0) 58 ≡ true → up_to_comma activation_field s ≡ changed (Activation g) (λ n. n + 2) (up_to_comma k_field (drop 2 s))
+    unfolding activation_field up_to_comma ◌>>=◌ ◌>>◌ require changed colon_of
+    activation_part k =
+        let colon : colon_of (get_or (drop 1 s) 0 0) ≡ accepted tt = rw (second, k) in
+        let v = byte digit_of digit_zero digit_comma s g h in
+        let w = byte colon_of refl refl (drop 1 s) tt colon in
+        rw (v.fields, v.index, w.fields, w.index, h, second, k, third) (go (k_field (before comma (drop 2 s))))
       where
         go : (x : Answer ℤ) → ((x >>= λ k. accepted (Activation g k)) >>= λ a. accepted (record { value = a; length = suc (suc (index_of comma (drop 2 s))) })) ≡ changed (Activation g) (λ n. n + 2) (x >>= λ a. accepted (record { value = a; length = index_of comma (drop 2 s) }))
         go (refused n) = refl
         go (accepted k) = ap (λ (n : ℕ). accepted (record { value = Activation g k; length = n })) (omega arith)
 
-  pub reference-constant : (correlation : Bool) → eqb (get_or s 0 0) 64 ≡ false → upToComma (referenceField correlation) s ≡ upToComma constantField s
-  unfolding referenceField upToComma
-  reference-constant correlation h = rw (first_byte (λ b. eqb b 64) s refl, h)
+  pub reference_constant : (correlation : Bool) → eqb (get_or s 0 0) 64 ≡ false → up_to_comma (reference_field correlation) s ≡ up_to_comma constant_field s
+  unfolding reference_field up_to_comma
+  reference_constant correlation h = rw (first_byte (λ b. eqb b 64) s refl, h)
 
-  pub reference-refused : (correlation : Bool) → correlation ≡ false → eqb (get_or s 0 0) 64 ≡ true → upToComma (referenceField correlation) s ≡ refused 4
-  unfolding referenceField upToComma ◌>>=◌ ◌>>◌ require
-  reference-refused correlation e h = rw (e, first_byte (λ b. eqb b 64) s refl, h)
+  pub reference_refused : (correlation : Bool) → correlation ≡ false → eqb (get_or s 0 0) 64 ≡ true → up_to_comma (reference_field correlation) s ≡ refused 4
+  unfolding reference_field up_to_comma ◌>>=◌ ◌>>◌ require
+  reference_refused correlation e h = rw (e, first_byte (λ b. eqb b 64) s refl, h)
 
-  pub reference-part : (correlation : Bool) → correlation ≡ true → eqb (get_or s 0 0) 64 ≡ true → upToComma (referenceField correlation) s ≡ changed (λ x. x) (λ n. n + 1) (upToComma activationField (drop 1 s))
-  unfolding referenceField upToComma ◌>>=◌ ◌>>◌ require changed at_of
-  reference-part correlation e h =
+  pub reference_part : (correlation : Bool) → correlation ≡ true → eqb (get_or s 0 0) 64 ≡ true → up_to_comma (reference_field correlation) s ≡ changed (λ x. x) (λ n. n + 1) (up_to_comma activation_field (drop 1 s))
+  unfolding reference_field up_to_comma ◌>>=◌ ◌>>◌ require changed at_of
+  reference_part correlation e h =
       let at : at_of (get_or s 0 0) ≡ accepted tt = rw h in
       let v = byte at_of refl refl s tt at in
-      rw (e, v.fields, v.index, h) (go (activationField (before comma (drop 1 s))))
+      rw (e, v.fields, v.index, h) (go (activation_field (before comma (drop 1 s))))
     where
       go : (x : Answer Reference) → (x >>= λ a. accepted (record { value = a; length = suc (index_of comma (drop 1 s)) })) ≡ changed (λ x. x) (λ n. n + 1) (x >>= λ a. accepted (record { value = a; length = index_of comma (drop 1 s) }))
       go (refused n) = refl
@@ -174,22 +174,22 @@ module _ (s : List ℕ) where
 -- ---- comparisons
 
 module _ (correlation : Bool) (s : List ℕ) where
-  pub comparison-no-digit : digitOf (get_or s 0 0) ≡ refused 4 → upToComma (comparisonField correlation) s ≡ refused 4
-  unfolding comparisonField upToComma ◌>>=◌
-  comparison-no-digit h = rw (first_byte digitOf s (digit-zero ∙ sym digit-comma), h)
+  pub comparison_no_digit : digit_of (get_or s 0 0) ≡ refused 4 → up_to_comma (comparison_field correlation) s ≡ refused 4
+  unfolding comparison_field up_to_comma ◌>>=◌
+  comparison_no_digit h = rw (first_byte digit_of s (digit_zero ∙ sym digit_comma), h)
 
-  module _ (r : ℕ) (h : digitOf (get_or s 0 0) ≡ accepted r) where
-    pub comparison-no-operator : operatorOf (get_or s 1 0) ≡ refused 4 → upToComma (comparisonField correlation) s ≡ refused 4
-    unfolding comparisonField upToComma ◌>>=◌
-    comparison-no-operator k =
-        rw ((byte digitOf digit-zero digit-comma s r h).fields, h, first_byte operatorOf (drop 1 s) (operator-zero ∙ sym operator-comma), second s, k)
+  module _ (r : ℕ) (h : digit_of (get_or s 0 0) ≡ accepted r) where
+    pub comparison_no_operator : operator_of (get_or s 1 0) ≡ refused 4 → up_to_comma (comparison_field correlation) s ≡ refused 4
+    unfolding comparison_field up_to_comma ◌>>=◌
+    comparison_no_operator k =
+        rw ((byte digit_of digit_zero digit_comma s r h).fields, h, first_byte operator_of (drop 1 s) (operator_zero ∙ sym operator_comma), second s, k)
 
-    pub comparison-part : (o : Operator) → operatorOf (get_or s 1 0) ≡ accepted o → upToComma (comparisonField correlation) s ≡ changed (λ x. record { reading = r; operator = o; reference = x }) (λ n. n + 2) (upToComma (referenceField correlation) (drop 2 s))
-    unfolding comparisonField upToComma ◌>>=◌ changed
-    comparison-part o k =
-        let v = byte digitOf digit-zero digit-comma s r h in
-        let w = byte operatorOf operator-zero operator-comma (drop 1 s) o (rw (second s) k) in
-        rw (v.fields, v.index, w.fields, w.index, h, second s, k, third s) (go (referenceField correlation (before comma (drop 2 s))))
+    pub comparison_part : (o : Operator) → operator_of (get_or s 1 0) ≡ accepted o → up_to_comma (comparison_field correlation) s ≡ changed (λ x. record { reading = r; operator = o; reference = x }) (λ n. n + 2) (up_to_comma (reference_field correlation) (drop 2 s))
+    unfolding comparison_field up_to_comma ◌>>=◌ changed
+    comparison_part o k =
+        let v = byte digit_of digit_zero digit_comma s r h in
+        let w = byte operator_of operator_zero operator_comma (drop 1 s) o (rw (second s) k) in
+        rw (v.fields, v.index, w.fields, w.index, h, second s, k, third s) (go (reference_field correlation (before comma (drop 2 s))))
       where
         compared : Reference → Comparison
         compared x = record { reading = r; operator = o; reference = x }

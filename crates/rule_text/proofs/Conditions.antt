@@ -9,28 +9,28 @@ use borrow.Author.Tests.{lt-ltb, le-ltb, le-leb, lt-leb, ltb-true, ltb-false}
 use lib.Dec.{leb, ltb}
 use lib.ListN.{length, drop, length-take, length-drop}
 use lib.Seq.{drop-drop}
-use Rattle.declare.specs.Conditions.{comparisonsOf}
+use Rattle.declare.specs.Conditions.{comparisons_of}
 use Rattle.line.specs.Fields.{index_of, before, following, split}
 use Rattle.declare.specs.Answers.{accepted, refused, ◌>>=◌, ◌>>◌, require}
 use Rattle.line.proofs.Fields.{parts}
 use Rattle.rule_text.specs.Types.{Comparison, Condition}
-use Rattle.rule_text.specs.Comparisons.{comparisonField}
-use Rattle.rule_text.specs.Conditions.{comma, comparisonsAfter, conditionOf}
+use Rattle.rule_text.specs.Comparisons.{comparison_field}
+use Rattle.rule_text.specs.Conditions.{comma, comparisons_after, condition_of}
 
 -- ---- slots
 
-pub comparisons-slots : (cs : List Comparison) → length cs ≤ 4 → comparisonsOf (conditionOf cs) ≡ cs
-unfolding comparisonsOf conditionOf
-comparisons-slots [] h = refl
-comparisons-slots (x ∷ []) h = refl
-comparisons-slots (x ∷ y ∷ []) h = refl
-comparisons-slots (x ∷ y ∷ z ∷ []) h = refl
-comparisons-slots (x ∷ y ∷ z ∷ w ∷ []) h = refl
-comparisons-slots (x ∷ y ∷ z ∷ w ∷ v ∷ cs) h = absurd (omega arith)
+pub comparisons_slots : (cs : List Comparison) → length cs ≤ 4 → comparisons_of (condition_of cs) ≡ cs
+unfolding comparisons_of condition_of
+comparisons_slots [] h = refl
+comparisons_slots (x ∷ []) h = refl
+comparisons_slots (x ∷ y ∷ []) h = refl
+comparisons_slots (x ∷ y ∷ z ∷ []) h = refl
+comparisons_slots (x ∷ y ∷ z ∷ w ∷ []) h = refl
+comparisons_slots (x ∷ y ∷ z ∷ w ∷ v ∷ cs) h = absurd (omega arith)
 
-pub comparisons-few : (c : Condition) → length (comparisonsOf c) ≤ 4
-unfolding comparisonsOf
-comparisons-few c =
+pub comparisons_few : (c : Condition) → length (comparisons_of c) ≤ 4
+unfolding comparisons_of
+comparisons_few c =
     rw (length-take c.count (c.first ∷ c.second ∷ c.third ∷ c.fourth ∷ [])) (omega arith)
 
 -- ---- one comparison after the other
@@ -39,17 +39,17 @@ comparisons-few c =
 unfoldable pub fields_at : List ℕ → ℕ → List (List ℕ)
 fields_at field at = cond (leb at (length field)) (split comma (drop at field)) []
 
-pub fields-start : (field : List ℕ) → fields_at field 0 ≡ split comma field
+pub fields_start : (field : List ℕ) → fields_at field 0 ≡ split comma field
 unfolding fields_at
-fields-start field = rw (le-leb 0 (length field) (omega arith))
+fields_start field = rw (le-leb 0 (length field) (omega arith))
 
-pub fields-end : (field : List ℕ) (at : ℕ) → length field < at → fields_at field at ≡ []
+pub fields_end : (field : List ℕ) (at : ℕ) → length field < at → fields_at field at ≡ []
 unfolding fields_at
-fields-end field at h = rw (lt-leb at (length field) h)
+fields_end field at h = rw (lt-leb at (length field) h)
 
-pub fields-next : (field : List ℕ) (at : ℕ) → at ≤ length field → fields_at field at ≡ before comma (drop at field) ∷ fields_at field (at + index_of comma (drop at field) + 1)
+pub fields_next : (field : List ℕ) (at : ℕ) → at ≤ length field → fields_at field at ≡ before comma (drop at field) ∷ fields_at field (at + index_of comma (drop at field) + 1)
 unfolding fields_at following
-fields-next field at h = rw (le-leb at (length field) h, parts comma (drop at field)) (ap (λ (k : List (List ℕ)). before comma (drop at field) ∷ k) (go (ltb i (length (drop at field))) refl))
+fields_next field at h = rw (le-leb at (length field) h, parts comma (drop at field)) (ap (λ (k : List (List ℕ)). before comma (drop at field) ∷ k) (go (ltb i (length (drop at field))) refl))
   where
     i : ℕ
     i = index_of comma (drop at field)
@@ -64,15 +64,15 @@ fields-next field at h = rw (le-leb at (length field) h, parts comma (drop at fi
         rw (p, lt-leb (at + i + 1) (length field) l)
 
 module _ (correlation : Bool) (above : List Comparison) (field : List ℕ) (more : List (List ℕ)) where
-  pub after-refused : (n : ℕ) → comparisonField correlation field ≡ refused n → comparisonsAfter correlation above (field ∷ more) ≡ refused n
-  unfolding comparisonsAfter ◌>>=◌
-  after-refused n h = rw h
+  pub after_refused : (n : ℕ) → comparison_field correlation field ≡ refused n → comparisons_after correlation above (field ∷ more) ≡ refused n
+  unfolding comparisons_after ◌>>=◌
+  after_refused n h = rw h
 
-  module _ (c : Comparison) (h : comparisonField correlation field ≡ accepted c) where
-    pub after-full : 4 ≤ length above → comparisonsAfter correlation above (field ∷ more) ≡ refused 17
-    unfolding comparisonsAfter ◌>>=◌ ◌>>◌ require
-    after-full l = rw (h, le-ltb (length above) 4 l)
+  module _ (c : Comparison) (h : comparison_field correlation field ≡ accepted c) where
+    pub after_full : 4 ≤ length above → comparisons_after correlation above (field ∷ more) ≡ refused 17
+    unfolding comparisons_after ◌>>=◌ ◌>>◌ require
+    after_full l = rw (h, le-ltb (length above) 4 l)
 
-    pub after_next : length above < 4 → comparisonsAfter correlation above (field ∷ more) ≡ comparisonsAfter correlation (above ++ (c ∷ [])) more
-    unfolding comparisonsAfter ◌>>=◌ ◌>>◌ require
+    pub after_next : length above < 4 → comparisons_after correlation above (field ∷ more) ≡ comparisons_after correlation (above ++ (c ∷ [])) more
+    unfolding comparisons_after ◌>>=◌ ◌>>◌ require
     after_next l = rw (h, lt-ltb (length above) 4 l)

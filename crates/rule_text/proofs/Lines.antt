@@ -5,16 +5,16 @@ use mathlib.Core.List.{List}
 use Prim.Native.Nat.{ℕ}
 use borrow.Author.Tests.{ne_eqb}
 use lib.ListN.{length}
-use Rattle.declare.specs.Limits.{lastActivity, lastTemplate}
+use Rattle.declare.specs.Limits.{last_activity, last_template}
 use Rattle.declare.specs.Events.{latest}
 use Rattle.declare.specs.Answers.{Answer, accepted, refused, ◌>>=◌, ◌>>◌, require}
-use Rattle.line.specs.Fields.{LF, tab, before, fieldsFrom}
-use Rattle.line.specs.Values.{numberField}
-use Rattle.line.proofs.Lines.{partAfter}
+use Rattle.line.specs.Fields.{LF, tab, before, fields_from}
+use Rattle.line.specs.Values.{number_field}
+use Rattle.line.proofs.Lines.{part_after}
 use Rattle.rule_text.specs.Types.{Condition, End}
-use Rattle.rule_text.specs.Conditions.{conditionField}
-use Rattle.rule_text.specs.Rules.{endField, checkedRule, ruleFieldCount, ruleOf}
-use Rattle.rule_text.specs.Reads.{headBy, ruleBy}
+use Rattle.rule_text.specs.Conditions.{condition_field}
+use Rattle.rule_text.specs.Rules.{end_field, checked_rule, rule_field_count, rule_of}
+use Rattle.rule_text.specs.Reads.{head_by, rule_by}
 
 flat : (a b c d : Answer ℕ) (e : Answer End) (f g : Answer Condition) →
     (do
@@ -25,9 +25,9 @@ flat : (a b c d : Answer ℕ) (e : Answer End) (f g : Answer Condition) →
       until ← e
       condition ← f
       correlation ← g
-      checkedRule (record { code = code; activation = activation; target = target; window = record { from = from; until = until }; condition = condition; correlation = correlation }))
-    ≡ ruleBy (headBy a b c d e) f g
-unfolding ◌>>=◌ headBy ruleBy
+      checked_rule (record { code = code; activation = activation; target = target; window = record { from = from; until = until }; condition = condition; correlation = correlation }))
+    ≡ rule_by (head_by a b c d e) f g
+unfolding ◌>>=◌ head_by rule_by
 flat (refused n) b c d e f g = refl
 flat (accepted a) (refused n) c d e f g = refl
 flat (accepted a) (accepted b) (refused n) d e f g = refl
@@ -35,11 +35,11 @@ flat (accepted a) (accepted b) (accepted c) (refused n) e f g = refl
 flat (accepted a) (accepted b) (accepted c) (accepted d) (refused n) f g = refl
 flat (accepted a) (accepted b) (accepted c) (accepted d) (accepted e) f g = refl
 
-pub by-answers : (s : List ℕ) → ruleOf (fieldsFrom 6 s) ≡ ruleBy (headBy (numberField 1 lastTemplate (before tab s)) (numberField 1 lastActivity (before tab (partAfter 1 s))) (numberField 1 lastActivity (before tab (partAfter 2 s))) (numberField 0 latest (before tab (partAfter 3 s))) (endField (before tab (partAfter 4 s)))) (conditionField false (before tab (partAfter 5 s))) (conditionField true (before LF (partAfter 6 s)))
-unfolding ruleOf fieldsFrom require ◌>>◌
-by-answers s = flat _ _ _ _ _ _ _
+pub by_answers : (s : List ℕ) → rule_of (fields_from 6 s) ≡ rule_by (head_by (number_field 1 last_template (before tab s)) (number_field 1 last_activity (before tab (part_after 1 s))) (number_field 1 last_activity (before tab (part_after 2 s))) (number_field 0 latest (before tab (part_after 3 s))) (end_field (before tab (part_after 4 s)))) (condition_field false (before tab (part_after 5 s))) (condition_field true (before LF (part_after 6 s)))
+unfolding rule_of fields_from require ◌>>◌
+by_answers s = flat _ _ _ _ _ _ _
 
 -- not seven fields
-pub field-count : (fields : List (List ℕ)) → (length fields ≡ ruleFieldCount → ⊥) → ruleOf fields ≡ refused 1
-unfolding ruleOf require ◌>>◌
-field-count fields h = rw (ne_eqb (length fields) ruleFieldCount h)
+pub field_count : (fields : List (List ℕ)) → (length fields ≡ rule_field_count → ⊥) → rule_of fields ≡ refused 1
+unfolding rule_of require ◌>>◌
+field_count fields h = rw (ne_eqb (length fields) rule_field_count h)

@@ -5,36 +5,36 @@ use mathlib.Core.List.{List, []}
 use Prim.Native.Nat.{ℕ, ◌≤◌, ◌<◌}
 use borrow.Author.Tests.{lt-ltb, le-ltb}
 use lib.ListN.{length, take}
-use Rattle.declare.specs.Limits.{mostRules}
+use Rattle.declare.specs.Limits.{most_rules}
 use Rattle.declare.specs.Refusals.{number_of}
-use Rattle.declare.specs.Rules.{noRule, rulesOf}
+use Rattle.declare.specs.Rules.{no_rule, rules_of}
 use Rattle.declare.specs.Answers.{accepted, refused, ◌>>◌, require}
 use Rattle.declare.specs.Slots.{table_of}
-use Rattle.declare.proofs.Filled.{Filled, filled-count}
-use Rattle.line.specs.Texts.{All, Stop, recordsRead}
+use Rattle.declare.proofs.Filled.{Filled, filled_count}
+use Rattle.line.specs.Texts.{All, Stop, records_read}
 use Rattle.rule_text.specs.Types.{Rule, Refusal, Accepted, Refused, RulesRead}
-use Rattle.rule_text.specs.Rules.{in_table, rulesTextOf}
-use Rattle.rule_text.specs.Reads.{rulesIn, ReadsRules}
+use Rattle.rule_text.specs.Rules.{in_table, rules_text_of}
+use Rattle.rule_text.specs.Reads.{rules_in, ReadsRules}
 
 module _ (above : List Rule) (r : Rule) where
-  pub full : mostRules ≤ length above → in_table above r ≡ refused 8
+  pub full : most_rules ≤ length above → in_table above r ≡ refused 8
   unfolding ◌>>◌ require in_table
-  full m = rw (le-ltb (length above) mostRules m)
+  full m = rw (le-ltb (length above) most_rules m)
 
-  pub in-table : length above < mostRules → in_table above r ≡ accepted r
+  pub in_table_lem : length above < most_rules → in_table above r ≡ accepted r
   unfolding ◌>>◌ require in_table
-  in-table m = rw (lt-ltb (length above) mostRules m)
+  in_table_lem m = rw (lt-ltb (length above) most_rules m)
 
 -- ---- what is returned
 
-pub answer-refused : (text : List ℕ) (r : RulesRead) (cause : Refusal) (line : ℕ) → r.outcome ≡ Refused cause line → r.table ≡ table_of [] → rulesTextOf text ≡ Stop (number_of cause) line → ReadsRules text r
-unfolding recordsRead rulesIn
-answer-refused text r cause line p t q = record { records = rw (p, q); table = rw q t }
+pub answer_refused : (text : List ℕ) (r : RulesRead) (cause : Refusal) (line : ℕ) → r.outcome ≡ Refused cause line → r.table ≡ table_of [] → rules_text_of text ≡ Stop (number_of cause) line → ReadsRules text r
+unfolding records_read rules_in
+answer_refused text r cause line p t q = record { records = rw (p, q); table = rw q t }
 
-pub answer-accepted : (text : List ℕ) (count : ℕ) (rules : List Rule) → Filled mostRules noRule count rules → rulesTextOf text ≡ All (take count rules) → ReadsRules text (record { outcome = Accepted; table = record { count = count; rules = rules } })
-unfolding recordsRead rulesIn rulesOf table_of
-answer-accepted text count rules h q =
+pub answer_accepted : (text : List ℕ) (count : ℕ) (rules : List Rule) → Filled most_rules no_rule count rules → rules_text_of text ≡ All (take count rules) → ReadsRules text (record { outcome = Accepted; table = record { count = count; rules = rules } })
+unfolding records_read rules_in rules_of table_of
+answer_accepted text count rules h q =
     record {
       records = sym q;
-      table = rw (q, filled-count mostRules noRule count rules h) (ap (λ (s : List Rule). record { count = count; rules = s }) h.same);
+      table = rw (q, filled_count most_rules no_rule count rules h) (ap (λ (s : List Rule). record { count = count; rules = s }) h.same);
     }

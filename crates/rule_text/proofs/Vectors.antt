@@ -7,22 +7,22 @@ use Prim.Native.Nat.{ℕ}
 use Prim.Native.String.{String}
 use lib.IntN.{ℤ, pos, negsuc}
 use lib.ListN.{length, replicate}
-use Rattle.declare.specs.Conditions.{comparisonsOf}
-use Rattle.declare.specs.Overall.{isOverall, overallOf}
-use Rattle.declare.specs.Rules.{fitsTemplate, noComparison, noCondition, noRule}
-use Rattle.number.specs.Number.{digit, digits, none, zeroAlone, positive, negative, naturalForm, integerForm, dash, valueFrom, value_of, integerValue, inNaturalRange, naturalOf, inSignedRange, integerOf}
-use Rattle.number.specs.Written.{digitsIn, digitsOf, integerText}
+use Rattle.declare.specs.Conditions.{comparisons_of}
+use Rattle.declare.specs.Overall.{is_overall, overall_of}
+use Rattle.declare.specs.Rules.{fits_template, no_comparison, no_condition, no_rule}
+use Rattle.number.specs.Number.{digit, digits, none, zero_alone, positive, negative, natural_form, integer_form, dash, value_from, value_of, integer_value, in_natural_range, natural_of, in_signed_range, integer_of}
+use Rattle.number.specs.Written.{digits_in, digits_of, integer_text}
 use Rattle.number.proofs.Quoted.{bytes, repeated, Case, ◌gives◌, Checked}
-use Rattle.line.specs.Fields.{onto, split, eachAfter, joined}
+use Rattle.line.specs.Fields.{onto, split, each_after, joined}
 use Rattle.declare.specs.Answers.{Answer, accepted, refused, ◌>>=◌, ◌>>◌, require}
-use Rattle.line.specs.Values.{faultNumber, naturalAnswer, numberField}
-use Rattle.line.specs.Texts.{Records, All, Stop, lineAfter, continued, lines_of, text_of, writtenLine, writtenText}
+use Rattle.line.specs.Values.{fault_number, natural_answer, number_field}
+use Rattle.line.specs.Texts.{Records, All, Stop, line_after, continued, lines_of, text_of, written_line, written_text}
 use Rattle.rule_text.specs.Types.{Operator, Equal, NotEqual, Less, AtMost, Greater, AtLeast, Reference, Constant, Activation, Comparison, Condition, End, Never, At, Rule}
-use Rattle.rule_text.specs.Comparisons.{readingDigit, digitOf, operatorOf, kNumber, kAnswer, kField, constantField, activationField, referenceField, comparisonField}
-use Rattle.rule_text.specs.Conditions.{comparisonsAfter, conditionOf, comparisonsField, conditionField}
-use Rattle.rule_text.specs.Rules.{endField, isAbove, checkedRule, ruleOf, in_table, ruleAfter, rulesTextOf}
-use Rattle.rule_text.specs.Written.{referenceText, comparisonText, comparisonsText, conditionText, endText, ruleFields, rulesText}
-use Rattle.declare.specs.Limits.{mostRules}
+use Rattle.rule_text.specs.Comparisons.{reading_digit, digit_of, operator_of, k_number, k_answer, k_field, constant_field, activation_field, reference_field, comparison_field}
+use Rattle.rule_text.specs.Conditions.{comparisons_after, condition_of, comparisons_field, condition_field}
+use Rattle.rule_text.specs.Rules.{end_field, is_above, checked_rule, rule_of, in_table, rule_after, rules_text_of}
+use Rattle.rule_text.specs.Written.{reference_text, comparison_text, comparisons_text, condition_text, end_text, rule_fields, rules_text}
+use Rattle.declare.specs.Limits.{most_rules}
 use Rattle.declare.specs.Slots.{padded}
 
 -- ---- comparisons
@@ -134,24 +134,24 @@ conditions =
 
 abbrev rule : ℕ → ℕ → ℕ → ℕ → End → Condition → Rule
 rule code activation target a b correlation =
-    record { code = code; activation = activation; target = target; window = record { from = a; until = b }; condition = conditionOf []; correlation = correlation }
+    record { code = code; activation = activation; target = target; window = record { from = a; until = b }; condition = condition_of []; correlation = correlation }
 
 -- document 01's listing
 abbrev listing : List Rule
 listing =
-    rule 2 1 2 0 (At 500) (conditionOf []) ∷ rule 6 3 2 0 Never (conditionOf (compares 1 Equal (Activation 1 (pos 0)) ∷ [])) ∷ []
+    rule 2 1 2 0 (At 500) (condition_of []) ∷ rule 6 3 2 0 Never (condition_of (compares 1 Equal (Activation 1 (pos 0)) ∷ [])) ∷ []
 
-abbrev listingText : List ℕ
-listingText = bytes "2\t1\t2\t0\t500\t-\t-\n6\t3\t2\t0\t-\t-\t1=@1:0\n"
+abbrev listing_text : List ℕ
+listing_text = bytes "2\t1\t2\t0\t500\t-\t-\n6\t3\t2\t0\t-\t-\t1=@1:0\n"
 
 -- no line that is accepted has more bytes
-abbrev longestText : String
-longestText =
+abbrev longest_text : String
+longest_text =
     "12\t64\t64\t4294967294\t4294967295\t1=-2147483648,2=-2147483648,3=-2147483648,4=-2147483648\t1=@1:-2147483648,2=@1:-2147483648,3=@1:-2147483648,4=@1:-2147483648\n"
 
 -- readings 1 to 4
 abbrev each : Reference → Condition
-each k = conditionOf (compares 1 Equal k ∷ compares 2 Equal k ∷ compares 3 Equal k ∷ compares 4 Equal k ∷ [])
+each k = condition_of (compares 1 Equal k ∷ compares 2 Equal k ∷ compares 3 Equal k ∷ compares 4 Equal k ∷ [])
 
 abbrev longest : Rule
 longest =
@@ -165,22 +165,22 @@ longest =
       correlation = each (Activation 1 lowest);
     }
 
-abbrev acceptedTexts : List (Case (Records Rule))
-acceptedTexts =
+abbrev accepted_texts : List (Case (Records Rule))
+accepted_texts =
     "" gives All []
-    ∷ "1\t1\t1\t0\t1\t-\t-\n" gives All (rule 1 1 1 0 (At 1) (conditionOf []) ∷ [])
-    ∷ "12\t64\t64\t4294967294\t4294967295\t-\t-\n" gives All (rule 12 64 64 4294967294 (At 4294967295) (conditionOf []) ∷ [])
-    ∷ "7\t3\t3\t4294967295\t-\t-\t-\n" gives All (rule 7 3 3 4294967295 Never (conditionOf []) ∷ [])
-    ∷ longestText gives All (longest ∷ [])
+    ∷ "1\t1\t1\t0\t1\t-\t-\n" gives All (rule 1 1 1 0 (At 1) (condition_of []) ∷ [])
+    ∷ "12\t64\t64\t4294967294\t4294967295\t-\t-\n" gives All (rule 12 64 64 4294967294 (At 4294967295) (condition_of []) ∷ [])
+    ∷ "7\t3\t3\t4294967295\t-\t-\t-\n" gives All (rule 7 3 3 4294967295 Never (condition_of []) ∷ [])
+    ∷ longest_text gives All (longest ∷ [])
     -- rules about the cycle; under 13 and 14 the activities may be equal
-    ∷ "13\t1\t1\t0\t-\t-\t-\n" gives All (rule 13 1 1 0 Never (conditionOf []) ∷ [])
-    ∷ "14\t64\t2\t10\t20\t-\t-\n" gives All (rule 14 64 2 10 (At 20) (conditionOf []) ∷ [])
-    ∷ "15\t1\t2\t0\t-\t-\t-\n16\t2\t1\t0\t-\t-\t-\n" gives All (rule 15 1 2 0 Never (conditionOf []) ∷ rule 16 2 1 0 Never (conditionOf []) ∷ [])
+    ∷ "13\t1\t1\t0\t-\t-\t-\n" gives All (rule 13 1 1 0 Never (condition_of []) ∷ [])
+    ∷ "14\t64\t2\t10\t20\t-\t-\n" gives All (rule 14 64 2 10 (At 20) (condition_of []) ∷ [])
+    ∷ "15\t1\t2\t0\t-\t-\t-\n16\t2\t1\t0\t-\t-\t-\n" gives All (rule 15 1 2 0 Never (condition_of []) ∷ rule 16 2 1 0 Never (condition_of []) ∷ [])
     ∷ []
 
 -- each cause, with its line
-abbrev refusedTexts : List (Case (Records Rule))
-refusedTexts =
+abbrev refused_texts : List (Case (Records Rule))
+refused_texts =
     -- an empty line is one empty field; a tab at the end of a line leaves an empty field behind it
     "\n" gives Stop 1 1
     ∷ "1\t1\t1\t0\t-\t-\n" gives Stop 1 1
@@ -289,36 +289,36 @@ full =
     ∷ "1\t1\t1\t5\t5\t-\t-\n" gives Stop 6 17
     ∷ "15\t1\t1\t0\t-\t-\t-\n" gives Stop 16 17
     ∷ "1\t1\t1\t0\t-\t-\t-" gives Stop 12 17
-    ∷ "" gives All (replicate 16 (rule 1 1 1 0 Never (conditionOf [])))
+    ∷ "" gives All (replicate 16 (rule 1 1 1 0 Never (condition_of [])))
     ∷ []
 
 pub record Vectors : Type 0 where
-  pub of-constants : Checked (comparisonField false) constants
-  pub of-references : Checked (comparisonField true) references
-  pub of-conditions : Checked (conditionField false) conditions
-  pub listing-read : rulesTextOf listingText ≡ All listing
-  pub listing-written : rulesText listing ≡ listingText
-  pub of-accepted : Checked rulesTextOf acceptedTexts
-  pub of-longest : length (bytes longestText) ≡ 155
-  pub of-refused : Checked rulesTextOf refusedTexts
-  pub of-ordered : Checked rulesTextOf ordered
-  pub of-full : Checked (λ s. rulesTextOf (repeated 16 "1\t1\t1\t0\t-\t-\t-\n" ++ s)) full
+  pub of_constants : Checked (comparison_field false) constants
+  pub of_references : Checked (comparison_field true) references
+  pub of_conditions : Checked (condition_field false) conditions
+  pub listing_read : rules_text_of listing_text ≡ All listing
+  pub listing_written : rules_text listing ≡ listing_text
+  pub of_accepted : Checked rules_text_of accepted_texts
+  pub of_longest : length (bytes longest_text) ≡ 155
+  pub of_refused : Checked rules_text_of refused_texts
+  pub of_ordered : Checked rules_text_of ordered
+  pub of_full : Checked (λ s. rules_text_of (repeated 16 "1\t1\t1\t0\t-\t-\t-\n" ++ s)) full
   -- 16 slots
-  pub of_slots : padded mostRules noRule listing ≡ listing ++ replicate 14 noRule
+  pub of_slots : padded most_rules no_rule listing ≡ listing ++ replicate 14 no_rule
 
 pub vectors : Vectors
-unfolding comparisonsOf noComparison noCondition noRule digit digits none zeroAlone positive negative naturalForm integerForm dash valueFrom value_of integerValue inNaturalRange naturalOf inSignedRange integerOf digitsIn digitsOf integerText onto split eachAfter joined ◌>>=◌ ◌>>◌ require faultNumber naturalAnswer numberField lineAfter continued lines_of text_of writtenLine writtenText readingDigit digitOf operatorOf kNumber kAnswer kField constantField activationField referenceField comparisonField comparisonsAfter conditionOf comparisonsField conditionField isOverall overallOf fitsTemplate endField isAbove checkedRule ruleOf in_table ruleAfter rulesTextOf referenceText comparisonText comparisonsText conditionText endText ruleFields rulesText padded
+unfolding comparisons_of no_comparison no_condition no_rule digit digits none zero_alone positive negative natural_form integer_form dash value_from value_of integer_value in_natural_range natural_of in_signed_range integer_of digits_in digits_of integer_text onto split each_after joined ◌>>=◌ ◌>>◌ require fault_number natural_answer number_field line_after continued lines_of text_of written_line written_text reading_digit digit_of operator_of k_number k_answer k_field constant_field activation_field reference_field comparison_field comparisons_after condition_of comparisons_field condition_field is_overall overall_of fits_template end_field is_above checked_rule rule_of in_table rule_after rules_text_of reference_text comparison_text comparisons_text condition_text end_text rule_fields rules_text padded
 vectors =
     record {
-      of-constants = refl;
-      of-references = refl;
-      of-conditions = refl;
-      listing-read = refl;
-      listing-written = refl;
-      of-accepted = refl;
-      of-longest = refl;
-      of-refused = refl;
-      of-ordered = refl;
-      of-full = refl;
+      of_constants = refl;
+      of_references = refl;
+      of_conditions = refl;
+      listing_read = refl;
+      listing_written = refl;
+      of_accepted = refl;
+      of_longest = refl;
+      of_refused = refl;
+      of_ordered = refl;
+      of_full = refl;
       of_slots = refl;
     }

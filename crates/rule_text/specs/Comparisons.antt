@@ -3,7 +3,7 @@
 -- `:`, k". "Comparison not of its form, `@` in an activation condition included" is 4. Past the end
 -- of a list of bytes stands 0, which is none of these bytes.
 use Rattle.std.specs.Prelude.{Bool, cond, ◌&&◌, List, ℕ, ◌-◌, leb, eqb, ℤ, get_or, drop}
-use Rattle.number.specs.Number.{digit0, integerOf}
+use Rattle.number.specs.Number.{digit0, integer_of}
 use Rattle.declare.specs.Answers.{Answer, accepted, refused, ◌>>=◌, ◌>>◌, require}
 use Rattle.rule_text.specs.Types.{Operator, Equal, NotEqual, Less, AtMost, Greater, AtLeast, Reference, Constant, Activation, Comparison, Fault, Form, Range, IntegerAnswer, Integer, NoInteger}
 
@@ -18,74 +18,74 @@ digit4 = 52
 abbrev pub colon : ℕ
 colon = 58
 
-abbrev pub atSign : ℕ
-atSign = 64
+abbrev pub at_sign : ℕ
+at_sign = 64
 
 -- `=` `!` `<` `l` `>` `g`, for =, ≠, <, ≤, >, ≥
-abbrev pub operatorByte : Operator → ℕ
-operatorByte Equal = 61
-operatorByte NotEqual = 33
-operatorByte Less = 60
-operatorByte AtMost = 108
-operatorByte Greater = 62
-operatorByte AtLeast = 103
+abbrev pub operator_byte : Operator → ℕ
+operator_byte Equal = 61
+operator_byte NotEqual = 33
+operator_byte Less = 60
+operator_byte AtMost = 108
+operator_byte Greater = 62
+operator_byte AtLeast = 103
 
-unfoldable pub readingDigit : ℕ → Bool
-readingDigit b = leb digit1 b && leb b digit4
+unfoldable pub reading_digit : ℕ → Bool
+reading_digit b = leb digit1 b && leb b digit4
 
-unfoldable pub digitOf : ℕ → Answer ℕ
-digitOf b = do
-  require (readingDigit b) 4
+unfoldable pub digit_of : ℕ → Answer ℕ
+digit_of b = do
+  require (reading_digit b) 4
   accepted (b - digit0)
 
-unfoldable pub operatorOf : ℕ → Answer Operator
-operatorOf b =
-    cond (eqb b (operatorByte Equal)) (accepted Equal)
-    (cond (eqb b (operatorByte NotEqual)) (accepted NotEqual)
-    (cond (eqb b (operatorByte Less)) (accepted Less)
-    (cond (eqb b (operatorByte AtMost)) (accepted AtMost)
-    (cond (eqb b (operatorByte Greater)) (accepted Greater)
-    (cond (eqb b (operatorByte AtLeast)) (accepted AtLeast)
+unfoldable pub operator_of : ℕ → Answer Operator
+operator_of b =
+    cond (eqb b (operator_byte Equal)) (accepted Equal)
+    (cond (eqb b (operator_byte NotEqual)) (accepted NotEqual)
+    (cond (eqb b (operator_byte Less)) (accepted Less)
+    (cond (eqb b (operator_byte AtMost)) (accepted AtMost)
+    (cond (eqb b (operator_byte Greater)) (accepted Greater)
+    (cond (eqb b (operator_byte AtLeast)) (accepted AtLeast)
     (refused 4))))))
 
 -- "a k not of the number form is 4, one outside its range 3"
-unfoldable pub kNumber : Fault → ℕ
-kNumber Form = 4
-kNumber Range = 3
+unfoldable pub k_number : Fault → ℕ
+k_number Form = 4
+k_number Range = 3
 
-unfoldable pub kAnswer : IntegerAnswer → Answer ℤ
-kAnswer (Integer k) = accepted k
-kAnswer (NoInteger fault) = refused (kNumber fault)
+unfoldable pub k_answer : IntegerAnswer → Answer ℤ
+k_answer (Integer k) = accepted k
+k_answer (NoInteger fault) = refused (k_number fault)
 
-unfoldable pub kField : List ℕ → Answer ℤ
-kField field = kAnswer (integerOf field)
+unfoldable pub k_field : List ℕ → Answer ℤ
+k_field field = k_answer (integer_of field)
 
 -- "a constant k"
-unfoldable pub constantField : List ℕ → Answer Reference
-constantField field = do
-  k ← kField field
+unfoldable pub constant_field : List ℕ → Answer Reference
+constant_field field = do
+  k ← k_field field
   accepted (Constant k)
 
 -- "activation's reading g plus k": what stands after `@`
-unfoldable pub activationField : List ℕ → Answer Reference
-activationField field = do
-  g ← digitOf (get_or field 0 0)
+unfoldable pub activation_field : List ℕ → Answer Reference
+activation_field field = do
+  g ← digit_of (get_or field 0 0)
   require (eqb (get_or field 1 0) colon) 4
-  k ← kField (drop 2 field)
+  k ← k_field (drop 2 field)
   accepted (Activation g k)
 
 -- `@` is allowed in a correlation only
-unfoldable pub referenceField : Bool → List ℕ → Answer Reference
-referenceField correlation field =
-    cond (eqb (get_or field 0 0) atSign)
+unfoldable pub reference_field : Bool → List ℕ → Answer Reference
+reference_field correlation field =
+    cond (eqb (get_or field 0 0) at_sign)
     (do
       require correlation 4
-      activationField (drop 1 field))
-    (constantField field)
+      activation_field (drop 1 field))
+    (constant_field field)
 
-unfoldable pub comparisonField : Bool → List ℕ → Answer Comparison
-comparisonField correlation field = do
-  reading ← digitOf (get_or field 0 0)
-  operator ← operatorOf (get_or field 1 0)
-  reference ← referenceField correlation (drop 2 field)
+unfoldable pub comparison_field : Bool → List ℕ → Answer Comparison
+comparison_field correlation field = do
+  reading ← digit_of (get_or field 0 0)
+  operator ← operator_of (get_or field 1 0)
+  reference ← reference_field correlation (drop 2 field)
   accepted (record { reading = reading; operator = operator; reference = reference })

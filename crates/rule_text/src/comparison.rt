@@ -2,27 +2,27 @@
 // ends at a comma or with the part.
 ghost use Rattle.std.specs.Prelude.{◌≡◌};
 ghost use Rattle.declare.specs.Refusals.{number_of};
-ghost use Rattle.rule_text.specs.Comparisons.{readingDigit, operatorOf, kNumber, kField, constantField, activationField, referenceField, comparisonField};
-ghost use Rattle.rule_text.specs.Reads.{upToComma, operatorRead, kRead, referenceRead, comparisonRead};
+ghost use Rattle.rule_text.specs.Comparisons.{reading_digit, operator_of, k_number, k_field, constant_field, activation_field, reference_field, comparison_field};
+ghost use Rattle.rule_text.specs.Reads.{up_to_comma, operator_read, k_read, reference_read, comparison_read};
 
 use declare::{Comparison, Operator, Reference, Refusal};
 use number::{Fault, IntegerAnswer};
 
 // `1` to `4`.
 fn is_reading(byte: u8) -> bool
-    ensures { result ≡ readingDigit byte }
+    ensures { result ≡ reading_digit byte }
 {
     (b'1' <= byte) & (byte <= b'4')
 }
 
-#[derive(Drop)]
+#[derive(Clone, Copy)]
 enum OperatorAnswer {
     Compares(Operator),
     NoOperator,
 }
 
 fn operator_of(byte: u8) -> OperatorAnswer
-    ensures { operatorRead result ≡ operatorOf byte }
+    ensures { operator_read result ≡ operator_of byte }
 {
     match byte {
         b'=' => OperatorAnswer::Compares(Operator::Equal),
@@ -36,14 +36,14 @@ fn operator_of(byte: u8) -> OperatorAnswer
 }
 
 // k, and its length.
-#[derive(Drop)]
+#[derive(Clone, Copy)]
 enum KAnswer {
     K(i32, usize),
     NoK(Refusal),
 }
 
 fn refusal_of(fault: Fault) -> Refusal
-    ensures { number_of result ≡ kNumber fault }
+    ensures { number_of result ≡ k_number fault }
 {
     match fault {
         Fault::Form => Refusal::ComparisonForm,
@@ -52,7 +52,7 @@ fn refusal_of(fault: Fault) -> Refusal
 }
 
 fn k_field(part: &[u8]) -> KAnswer
-    ensures { kRead result ≡ upToComma kField part.now }
+    ensures { k_read result ≡ up_to_comma k_field part.now }
 {
     let scan = line::scan_field(part, b',');
     let reader = scan.reader;
@@ -63,14 +63,14 @@ fn k_field(part: &[u8]) -> KAnswer
 }
 
 // A reference, and its length.
-#[derive(Drop)]
+#[derive(Clone, Copy)]
 enum ReferenceAnswer {
     Refers(Reference, usize),
     NoReference(Refusal),
 }
 
 fn constant(part: &[u8]) -> ReferenceAnswer
-    ensures { referenceRead result ≡ upToComma constantField part.now }
+    ensures { reference_read result ≡ up_to_comma constant_field part.now }
 {
     match k_field(part) {
         KAnswer::K(value, length) => ReferenceAnswer::Refers(Reference::Constant(value), length),
@@ -80,7 +80,7 @@ fn constant(part: &[u8]) -> ReferenceAnswer
 
 // What follows `@`.
 fn activation(part: &[u8]) -> ReferenceAnswer
-    ensures { referenceRead result ≡ upToComma activationField part.now }
+    ensures { reference_read result ≡ up_to_comma activation_field part.now }
 {
     let digit = line::byte_at(part, 0);
     if !is_reading(digit) {
@@ -100,7 +100,7 @@ fn activation(part: &[u8]) -> ReferenceAnswer
 }
 
 fn reference(part: &[u8], correlation: bool) -> ReferenceAnswer
-    ensures { referenceRead result ≡ upToComma (referenceField correlation) part.now }
+    ensures { reference_read result ≡ up_to_comma (reference_field correlation) part.now }
 {
     if line::byte_at(part, 0) != b'@' {
         return constant(part);
@@ -118,14 +118,14 @@ fn reference(part: &[u8], correlation: bool) -> ReferenceAnswer
 }
 
 // A comparison, and its length.
-#[derive(Drop)]
+#[derive(Clone, Copy)]
 pub enum ComparisonAnswer {
     Compared(Comparison, usize),
     NotCompared(Refusal),
 }
 
 pub fn comparison(part: &[u8], correlation: bool) -> ComparisonAnswer
-    ensures { comparisonRead result ≡ upToComma (comparisonField correlation) part.now }
+    ensures { comparison_read result ≡ up_to_comma (comparison_field correlation) part.now }
 {
     let digit = line::byte_at(part, 0);
     if !is_reading(digit) {

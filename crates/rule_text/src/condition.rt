@@ -1,10 +1,10 @@
 // Conditions: up to four comparisons, parted by commas.
 ghost use Rattle.std.specs.Prelude.{◌≡◌, [], ◌∷◌, ◌++◌, ◌<◌};
-ghost use Rattle.declare.specs.Limits.{mostComparisons};
-ghost use Rattle.declare.specs.Conditions.{comparisonsOf};
+ghost use Rattle.declare.specs.Limits.{most_comparisons};
+ghost use Rattle.declare.specs.Conditions.{comparisons_of};
 ghost use Rattle.line.specs.Fields.{index_of, before};
-ghost use Rattle.rule_text.specs.Conditions.{conditionOf, comparisonsField, conditionField};
-ghost use Rattle.rule_text.specs.Reads.{conditionRead};
+ghost use Rattle.rule_text.specs.Conditions.{condition_of, comparisons_field, condition_field};
+ghost use Rattle.rule_text.specs.Reads.{condition_read};
 
 use crate::comparison::{ComparisonAnswer, comparison};
 use declare::slots::{no_comparison, no_condition};
@@ -31,8 +31,8 @@ fn slots(
 
 // One comparison more.
 fn with(condition: Condition, next: Comparison) -> Condition
-    requires { condition.count < mostComparisons }
-    ensures { result ≡ conditionOf (comparisonsOf condition ++ (next ∷ [])) }
+    requires { condition.count < most_comparisons }
+    ensures { result ≡ condition_of (comparisons_of condition ++ (next ∷ [])) }
 {
     let none = no_comparison();
     let count = condition.count;
@@ -47,7 +47,7 @@ fn with(condition: Condition, next: Comparison) -> Condition
     }
 }
 
-#[derive(Drop)]
+#[derive(Clone, Copy)]
 pub enum ConditionAnswer {
     Comparisons(Condition),
     NoComparisons(Refusal),
@@ -55,7 +55,7 @@ pub enum ConditionAnswer {
 
 // A condition that is not `-`. A fifth comparison is read, and then refused.
 fn comparisons(field: &[u8], correlation: bool) -> ConditionAnswer
-    ensures { conditionRead result ≡ comparisonsField correlation field.now }
+    ensures { condition_read result ≡ comparisons_field correlation field.now }
 {
     let mut condition = no_condition();
     let mut at = 0;
@@ -75,7 +75,7 @@ fn comparisons(field: &[u8], correlation: bool) -> ConditionAnswer
 }
 
 fn condition(field: &[u8], correlation: bool) -> ConditionAnswer
-    ensures { conditionRead result ≡ conditionField correlation field.now }
+    ensures { condition_read result ≡ condition_field correlation field.now }
 {
     if is_dash(field) {
         return ConditionAnswer::Comparisons(no_condition());
@@ -83,7 +83,7 @@ fn condition(field: &[u8], correlation: bool) -> ConditionAnswer
     comparisons(field, correlation)
 }
 
-#[derive(Drop)]
+#[derive(Clone, Copy)]
 pub struct ConditionField {
     pub answer: ConditionAnswer,
     pub length: usize,
@@ -91,7 +91,7 @@ pub struct ConditionField {
 
 // The first field as a condition.
 pub fn condition_field(part: &[u8], separator: u8, correlation: bool) -> ConditionField
-    ensures answer_value { conditionRead result.answer ≡ conditionField correlation (before separator part.now) }
+    ensures answer_value { condition_read result.answer ≡ condition_field correlation (before separator part.now) }
     ensures length_value { result.length ≡ index_of separator part.now }
 {
     let length = line::find(part, separator);

@@ -13,7 +13,7 @@ use declare::slots::no_rule;
 use declare::{RULES, Refusal, Table};
 use line::Outcome;
 
-#[derive(Drop)]
+#[derive(Clone, Copy)]
 pub struct RulesRead {
     pub outcome: Outcome,
     pub table: Table,

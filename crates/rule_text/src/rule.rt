@@ -1,11 +1,11 @@
 // Rule lines: the fields are read one after the other, each from the part of the line that begins
 // at it; then the first refusal is told.
 ghost use Rattle.std.specs.Prelude.{◌≡◌, ◌+◌};
-ghost use Rattle.line.specs.Fields.{LF, index_of, fieldsFrom};
+ghost use Rattle.line.specs.Fields.{LF, index_of, fields_from};
 ghost use Rattle.line.specs.Texts.{line_of};
-ghost use Rattle.line.specs.Values.{naturalAnswer, byteRead};
-ghost use Rattle.rule_text.specs.Rules.{checkedRule, ruleOf};
-ghost use Rattle.rule_text.specs.Reads.{conditionRead, endRead, headRead, headBy, ruleRead, ruleBy};
+ghost use Rattle.line.specs.Values.{natural_answer, byte_read};
+ghost use Rattle.rule_text.specs.Rules.{checked_rule, rule_of};
+ghost use Rattle.rule_text.specs.Reads.{condition_read, end_read, head_read, head_by, rule_read, rule_by};
 
 use crate::condition::{ConditionAnswer, condition_field};
 use crate::window::{EndAnswer, end_field, is_above};
@@ -18,7 +18,7 @@ use number::NaturalAnswer;
 const TABS: usize = 6;
 
 // A rule without its conditions.
-#[derive(Drop)]
+#[derive(Clone, Copy)]
 struct RuleHead {
     code: u8,
     activation: u8,
@@ -26,7 +26,7 @@ struct RuleHead {
     window: Window,
 }
 
-#[derive(Drop)]
+#[derive(Clone, Copy)]
 enum HeadAnswer {
     Head(RuleHead),
     NoHead(Refusal),
@@ -39,7 +39,7 @@ fn head_of(
     from: NaturalAnswer,
     until: EndAnswer,
 ) -> HeadAnswer
-    ensures { headRead result ≡ headBy (byteRead code) (byteRead activation) (byteRead target) (naturalAnswer from) (endRead until) }
+    ensures { head_read result ≡ head_by (byte_read code) (byte_read activation) (byte_read target) (natural_answer from) (end_read until) }
 {
     let code = match code {
         ByteAnswer::Byte(value) => value,
@@ -71,7 +71,7 @@ fn head_of(
     }
 }
 
-#[derive(Drop)]
+#[derive(Clone, Copy)]
 pub enum RuleAnswer {
     Found(Rule),
     NoRule(Refusal),
@@ -79,7 +79,7 @@ pub enum RuleAnswer {
 
 // The checks of a rule whose fields are all read.
 fn checked_rule(rule: Rule) -> RuleAnswer
-    ensures { ruleRead result ≡ checkedRule rule }
+    ensures { rule_read result ≡ checked_rule rule }
 {
     let window = rule.window;
     let until = window.until;
@@ -93,7 +93,7 @@ fn checked_rule(rule: Rule) -> RuleAnswer
 }
 
 fn rule_of(head: HeadAnswer, condition: ConditionAnswer, correlation: ConditionAnswer) -> RuleAnswer
-    ensures { ruleRead result ≡ ruleBy (headRead head) (conditionRead condition) (conditionRead correlation) }
+    ensures { rule_read result ≡ rule_by (head_read head) (condition_read condition) (condition_read correlation) }
 {
     let head = match head {
         HeadAnswer::Head(value) => value,
@@ -120,7 +120,7 @@ fn rule_of(head: HeadAnswer, condition: ConditionAnswer, correlation: ConditionA
 
 // A line of seven fields.
 fn read_rule(part: &[u8]) -> RuleAnswer
-    ensures { ruleRead result ≡ ruleOf (fieldsFrom 6 part.now) }
+    ensures { rule_read result ≡ rule_of (fields_from 6 part.now) }
 {
     let field = byte_field(part, LAST_TEMPLATE);
     let code = field.answer;
@@ -146,7 +146,7 @@ fn read_rule(part: &[u8]) -> RuleAnswer
     rule_of(head, condition, correlation)
 }
 
-#[derive(Drop)]
+#[derive(Clone, Copy)]
 pub struct RuleLine {
     pub answer: RuleAnswer,
     pub next: usize,
@@ -154,7 +154,7 @@ pub struct RuleLine {
 
 // The line with which `rest` begins, and where the next one begins.
 pub fn rule_line(rest: &[u8]) -> RuleLine
-    ensures answer_value { ruleRead result.answer ≡ line_of ruleOf rest.now }
+    ensures answer_value { rule_read result.answer ≡ line_of rule_of rest.now }
     ensures next_value { result.next ≡ index_of LF rest.now + 1 }
 {
     let scan = line::scan_line(rest);

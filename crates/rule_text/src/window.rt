@@ -1,14 +1,14 @@
 // The end of a window: its field, and whether it is above the window's start.
 ghost use Rattle.std.specs.Prelude.{◌≡◌};
 ghost use Rattle.line.specs.Fields.{tab, index_of, before};
-ghost use Rattle.rule_text.specs.Rules.{endField, isAbove};
-ghost use Rattle.rule_text.specs.Reads.{endRead, endBy};
+ghost use Rattle.rule_text.specs.Rules.{end_field, is_above};
+ghost use Rattle.rule_text.specs.Reads.{end_read, end_by};
 
 use declare::End;
 use line::TAB;
 use number::{Fault, NaturalAnswer, Reader};
 
-#[derive(Drop)]
+#[derive(Clone, Copy)]
 pub enum EndAnswer {
     Until(End),
     NoUntil(Fault),
@@ -16,7 +16,7 @@ pub enum EndAnswer {
 
 // The bytes that the reader was handed, as the end of a window.
 fn end_answer(reader: Reader) -> EndAnswer
-    ensures { endRead result ≡ endBy reader }
+    ensures { end_read result ≡ end_by reader }
 {
     if reader.is_dash() {
         return EndAnswer::Until(End::Never);
@@ -27,7 +27,7 @@ fn end_answer(reader: Reader) -> EndAnswer
     }
 }
 
-#[derive(Drop)]
+#[derive(Clone, Copy)]
 pub struct EndField {
     pub answer: EndAnswer,
     pub length: usize,
@@ -35,7 +35,7 @@ pub struct EndField {
 
 // The first field as the end of a window.
 pub fn end_field(part: &[u8]) -> EndField
-    ensures answer_value { endRead result.answer ≡ endField (before tab part.now) }
+    ensures answer_value { end_read result.answer ≡ end_field (before tab part.now) }
     ensures length_value { result.length ≡ index_of tab part.now }
 {
     let scan = line::scan_field(part, TAB);
@@ -49,7 +49,7 @@ pub fn end_field(part: &[u8]) -> EndField
 
 // b is above a, or there is no end.
 pub fn is_above(until: End, from: u32) -> bool
-    ensures { result ≡ isAbove until from }
+    ensures { result ≡ is_above until from }
 {
     match until {
         End::Never => true,

@@ -7,45 +7,45 @@ use native.Mathlib.Omega.{arith}
 use lib.ListN.{length, get_or, take}
 use lib.Seq.{take-suc, take-suc-set}
 use Rattle.declare.specs.declared.Event.{Event}
-use Rattle.declare.specs.Events.{lastFrom, lastTime, noEvent}
+use Rattle.declare.specs.Events.{last_from, last_time, no_event}
 use Rattle.declare.specs.Continuations.{horizon}
 use Rattle.declare.specs.Steps.{takes, notices}
 use Rattle.declare.proofs.Lists.{last_more}
 use Rattle.run.specs.declared.Run.{Run}
-use Rattle.run.specs.Records.{eventsOf, horizonOf}
+use Rattle.run.specs.Records.{events_of, horizon_of}
 use Rattle.run.specs.Calls.{entered}
 
 module _ (n : ℕ) (events : List Event) (clock : ℕ) where
-  pub horizon-none : n ≡ 0 → horizon (record { events = take n events; clock = clock }) ≡ clock
-  unfolding horizon lastTime lastFrom
-  horizon-none e = rw e (omega arith)
+  pub horizon_none : n ≡ 0 → horizon (record { events = take n events; clock = clock }) ≡ clock
+  unfolding horizon last_time last_from
+  horizon_none e = rw e (omega arith)
 
-  pub horizon-last : 0 < n → n ≤ length events → horizon (record { events = take n events; clock = clock }) ≡ max (get_or events (n - 1) noEvent).time clock
+  pub horizon_last : 0 < n → n ≤ length events → horizon (record { events = take n events; clock = clock }) ≡ max (get_or events (n - 1) no_event).time clock
   unfolding horizon
-  horizon-last a b =
+  horizon_last a b =
       let m : n ≡ suc (n - 1) = omega arith in
       ap (λ (t : ℕ). max t clock)
-      (ap (λ (k : ℕ). lastTime (take k events)) m
-      ∙ ap lastTime (take-suc events (n - 1) noEvent (omega arith))
-      ∙ last_more (take (n - 1) events) (get_or events (n - 1) noEvent))
+      (ap (λ (k : ℕ). last_time (take k events)) m
+      ∙ ap last_time (take-suc events (n - 1) no_event (omega arith))
+      ∙ last_more (take (n - 1) events) (get_or events (n - 1) no_event))
 
-pub events-entered : (r : Run) (e : Event) → r.count < length r.events → eventsOf (entered r (takes e)) ≡ eventsOf r ++ e ∷ []
-unfolding eventsOf entered
-events-entered r e room = rw add-one (take-suc-set r.events r.count e room)
+pub events_entered : (r : Run) (e : Event) → r.count < length r.events → events_of (entered r (takes e)) ≡ events_of r ++ e ∷ []
+unfolding events_of entered
+events_entered r e room = rw add-one (take-suc-set r.events r.count e room)
 
 module _ (r : Run) where
-  entered-clock : (e : Event) → (entered r (takes e)).clock ≡ r.clock
+  entered_clock : (e : Event) → (entered r (takes e)).clock ≡ r.clock
   unfolding entered
-  entered-clock e = refl
+  entered_clock e = refl
 
   -- after an accepted call it is the call's own time
-  pub horizon-taken : (e : Event) → r.count < length r.events → horizonOf r ≤ e.time → horizonOf (entered r (takes e)) ≡ e.time
+  pub horizon_taken : (e : Event) → r.count < length r.events → horizon_of r ≤ e.time → horizon_of (entered r (takes e)) ≡ e.time
   unfolding horizon
-  horizon-taken e room l =
-      let last : lastTime (eventsOf (entered r (takes e))) ≡ e.time = ap lastTime (events-entered r e room) ∙ last_more (eventsOf r) e in
-      let kept : (entered r (takes e)).clock ≡ r.clock = entered-clock e in
+  horizon_taken e room l =
+      let last : last_time (events_of (entered r (takes e))) ≡ e.time = ap last_time (events_entered r e room) ∙ last_more (events_of r) e in
+      let kept : (entered r (takes e)).clock ≡ r.clock = entered_clock e in
       omega (arith, last, kept, l)
 
-  pub horizon-noticed : (time : ℕ) → horizonOf r ≤ time → horizonOf (entered r (notices time)) ≡ time
-  unfolding horizon eventsOf entered
-  horizon-noticed time l = omega (arith, l)
+  pub horizon_noticed : (time : ℕ) → horizon_of r ≤ time → horizon_of (entered r (notices time)) ≡ time
+  unfolding horizon events_of entered
+  horizon_noticed time l = omega (arith, l)

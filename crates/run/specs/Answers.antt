@@ -13,19 +13,19 @@ use Rattle.run.specs.declared.TotalsAnswer.{TotalsAnswer}
 use Rattle.run.specs.declared.TotalsAnswer.TheVariants.{Are, Refused as NoTotals}
 
 -- of start, take, notice and close: the run that they are accepted with, or the refusal
-unfoldable pub runAnswer : Run → Outcome → Answer Run
-runAnswer run Done = accepted run
-runAnswer run (NotDone cause) = refused (number_of cause)
+unfoldable pub run_answer : Run → Outcome → Answer Run
+run_answer run Done = accepted run
+run_answer run (NotDone cause) = refused (number_of cause)
 
-abbrev pub stepAnswer : Step → Answer Run
-stepAnswer s = runAnswer s.run s.outcome
+abbrev pub step_answer : Step → Answer Run
+step_answer s = run_answer s.run s.outcome
 
 -- of standing
-unfoldable pub standingAnswer : StandingAnswer → Answer Standing
-standingAnswer (Is s) = accepted s
-standingAnswer (NoStanding cause) = refused (number_of cause)
+unfoldable pub standing_answer : StandingAnswer → Answer Standing
+standing_answer (Is s) = accepted s
+standing_answer (NoStanding cause) = refused (number_of cause)
 
 -- of totals
-unfoldable pub totalsAnswer : TotalsAnswer → Answer Totals
-totalsAnswer (Are t) = accepted t
-totalsAnswer (NoTotals cause) = refused (number_of cause)
+unfoldable pub totals_answer : TotalsAnswer → Answer Totals
+totals_answer (Are t) = accepted t
+totals_answer (NoTotals cause) = refused (number_of cause)

@@ -3,17 +3,17 @@ use Rattle.std.specs.Prelude.{Bool, true, false, List, [], ◌∷◌, ℕ, get_o
 use Rattle.declare.specs.declared.Event.{Event}
 use Rattle.declare.specs.declared.Standing.{Standing}
 use Rattle.declare.specs.declared.Standing.TheVariants.{Idle, Open, Fulfilled, Violated}
-use Rattle.declare.specs.Slots.{eventSlots, table_of}
+use Rattle.declare.specs.Slots.{event_slots, table_of}
 use Rattle.declare.specs.EdgeCycles.{event}
 use Rattle.standings.specs.declared.totals.Totals.{Totals}
-use Rattle.standings.specs.Totals.{totalsBy}
+use Rattle.standings.specs.Totals.{totals_by}
 use Rattle.run.specs.declared.Run.{Run}
-use Rattle.run.specs.Records.{totalsIn, storedTotals, withTotals}
+use Rattle.run.specs.Records.{totals_in, stored_totals, with_totals}
 use Rattle.run.specs.Start.{started}
-use Rattle.run.specs.Calls.{judgedRun}
-use Rattle.run.specs.Close.{closedRun, finishedRun}
-use Rattle.run.specs.Queries.{one_of, isPosition}
-use Rattle.run.specs.RecordCases.{Case, ◌is◌, coded, recordWith, ofCycle, totals}
+use Rattle.run.specs.Calls.{judged_run}
+use Rattle.run.specs.Close.{closed_run, finished_run}
+use Rattle.run.specs.Queries.{one_of, is_position}
+use Rattle.run.specs.RecordCases.{Case, ◌is◌, coded, record_with, of_cycle, totals}
 
 -- "positions, rules and lines count from 1"
 unfoldable pub numbers : List (Case Bool)
@@ -21,7 +21,7 @@ numbers = one_of 3 0 is false ∷ one_of 3 1 is true ∷ one_of 3 3 is true ∷ 
 
 -- rule 1 is about the cycle, rule 2 is not; of 3 events
 abbrev pub position : ℕ → ℕ → Bool
-position k i = isPosition (record { count = 2; rules = coded 13 ∷ coded 9 ∷ coded 13 ∷ [] }) 3 k i
+position k i = is_position (record { count = 2; rules = coded 13 ∷ coded 9 ∷ coded 13 ∷ [] }) 3 k i
 
 unfoldable pub positions : List (Case Bool)
 positions =
@@ -42,38 +42,38 @@ stands i =
 -- of the first positions, position by position, from 0 on
 unfoldable pub counts : List (Case Totals)
 counts =
-    totalsBy stands 0 is totals 1 0 1 0
-    ∷ totalsBy stands 1 is totals 1 0 1 0
-    ∷ totalsBy stands 2 is totals 2 0 1 1
-    ∷ totalsBy stands 3 is totals 3 1 1 1
-    ∷ totalsBy stands 4 is totals 4 1 2 1
-    ∷ totalsBy stands 5 is totals 5 2 2 1
-    ∷ totalsBy stands 6 is totals 5 2 2 1
-    ∷ totalsBy stands 7 is totals 6 2 3 1
-    ∷ totalsBy stands 8 is totals 7 3 3 1
+    totals_by stands 0 is totals 1 0 1 0
+    ∷ totals_by stands 1 is totals 1 0 1 0
+    ∷ totals_by stands 2 is totals 2 0 1 1
+    ∷ totals_by stands 3 is totals 3 1 1 1
+    ∷ totals_by stands 4 is totals 4 1 2 1
+    ∷ totals_by stands 5 is totals 5 2 2 1
+    ∷ totals_by stands 6 is totals 5 2 2 1
+    ∷ totals_by stands 7 is totals 6 2 3 1
+    ∷ totals_by stands 8 is totals 7 3 3 1
     -- of a run: position 0 of a rule about the cycle, and not of another
-    ∷ totalsIn (ofCycle true 2 1 [] (Fulfilled 1 ∷ Fulfilled 1 ∷ [])) 1 is totals 1 1 0 0
-    ∷ totalsIn (ofCycle true 2 1 [] (Fulfilled 1 ∷ Fulfilled 1 ∷ [])) 2 is totals 0 0 0 0
+    ∷ totals_in (of_cycle true 2 1 [] (Fulfilled 1 ∷ Fulfilled 1 ∷ [])) 1 is totals 1 1 0 0
+    ∷ totals_in (of_cycle true 2 1 [] (Fulfilled 1 ∷ Fulfilled 1 ∷ [])) 2 is totals 0 0 0 0
     ∷ []
 
 -- the stored totals of the first two slots
-abbrev pub storedOf : Run → List Totals
-storedOf r = storedTotals r 1 ∷ storedTotals r 2 ∷ []
+abbrev pub stored_of : Run → List Totals
+stored_of r = stored_totals r 1 ∷ stored_totals r 2 ∷ []
 
 -- exclusive choice and response of 1 by 2, of the first k; the slots past them hold 9
-abbrev pub storedAfter : (Run → Run) → ℕ → List Event → List Totals
-storedAfter call k events =
-    storedOf
+abbrev pub stored_after : (Run → Run) → ℕ → List Event → List Totals
+stored_after call k events =
+    stored_of
     (call
-    (withTotals (recordWith false (coded 16 ∷ coded 2 ∷ []) k events 2 (replicate 258 Idle) (Open ∷ [])) (totals 9 9 9 9 ∷ totals 9 9 9 9 ∷ [])))
+    (with_totals (record_with false (coded 16 ∷ coded 2 ∷ []) k events 2 (replicate 258 Idle) (Open ∷ [])) (totals 9 9 9 9 ∷ totals 9 9 9 9 ∷ [])))
 
-unfoldable pub keptTotals : List (Case (List Totals))
-keptTotals =
-    storedOf (started (table_of (coded 16 ∷ coded 2 ∷ []))) is (totals 1 0 0 1 ∷ totals 0 0 0 0 ∷ [])
-    ∷ storedAfter judgedRun 2 (event 0 1 ∷ event 1 1 ∷ []) is (totals 1 0 0 1 ∷ totals 2 0 0 2 ∷ [])
-    ∷ storedAfter judgedRun 2 (event 0 1 ∷ event 1 2 ∷ []) is (totals 1 0 1 0 ∷ totals 1 1 0 0 ∷ [])
-    ∷ storedAfter judgedRun 1 (event 0 1 ∷ event 1 2 ∷ []) is (totals 1 0 1 0 ∷ totals 9 9 9 9 ∷ [])
-    ∷ storedAfter (λ r. closedRun (judgedRun r)) 2 (event 0 1 ∷ event 1 1 ∷ []) is (totals 1 1 0 0 ∷ totals 2 0 2 0 ∷ [])
-    ∷ storedAfter (λ r. closedRun (judgedRun r)) 1 (event 0 1 ∷ event 1 1 ∷ []) is (totals 1 1 0 0 ∷ totals 9 9 9 9 ∷ [])
-    ∷ storedOf (finishedRun (table_of (coded 16 ∷ coded 2 ∷ [])) 2 (eventSlots (event 0 1 ∷ event 1 1 ∷ []))) is (totals 1 1 0 0 ∷ totals 2 0 2 0 ∷ [])
+unfoldable pub kept_totals : List (Case (List Totals))
+kept_totals =
+    stored_of (started (table_of (coded 16 ∷ coded 2 ∷ []))) is (totals 1 0 0 1 ∷ totals 0 0 0 0 ∷ [])
+    ∷ stored_after judged_run 2 (event 0 1 ∷ event 1 1 ∷ []) is (totals 1 0 0 1 ∷ totals 2 0 0 2 ∷ [])
+    ∷ stored_after judged_run 2 (event 0 1 ∷ event 1 2 ∷ []) is (totals 1 0 1 0 ∷ totals 1 1 0 0 ∷ [])
+    ∷ stored_after judged_run 1 (event 0 1 ∷ event 1 2 ∷ []) is (totals 1 0 1 0 ∷ totals 9 9 9 9 ∷ [])
+    ∷ stored_after (λ r. closed_run (judged_run r)) 2 (event 0 1 ∷ event 1 1 ∷ []) is (totals 1 1 0 0 ∷ totals 2 0 2 0 ∷ [])
+    ∷ stored_after (λ r. closed_run (judged_run r)) 1 (event 0 1 ∷ event 1 1 ∷ []) is (totals 1 1 0 0 ∷ totals 9 9 9 9 ∷ [])
+    ∷ stored_of (finished_run (table_of (coded 16 ∷ coded 2 ∷ [])) 2 (event_slots (event 0 1 ∷ event 1 1 ∷ []))) is (totals 1 1 0 0 ∷ totals 2 0 2 0 ∷ [])
     ∷ []

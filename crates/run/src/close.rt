@@ -1,12 +1,12 @@
 // The call close: the open standings are decided, and the run takes no more events.
 ghost use Rattle.std.specs.Prelude.{◌≡◌, cond, ◌≤◌};
 ghost use Rattle.declare.specs.Answers.{after_call};
-ghost use Rattle.declare.specs.Limits.{mostRules};
-ghost use Rattle.declare.specs.Standings.{isOpen};
-ghost use Rattle.declare.specs.Templates.{polarityOf};
+ghost use Rattle.declare.specs.Limits.{most_rules};
+ghost use Rattle.declare.specs.Standings.{is_open};
+ghost use Rattle.declare.specs.Templates.{polarity_of};
 ghost use Rattle.declare.specs.Verdicts.{decided};
-ghost use Rattle.run.specs.Answers.{stepAnswer};
-ghost use Rattle.run.specs.Close.{ClosedCells, closeOf};
+ghost use Rattle.run.specs.Answers.{step_answer};
+ghost use Rattle.run.specs.Close.{ClosedCells, close_of};
 
 use crate::record::valid_run;
 use crate::{Outcome, Run, Step};
@@ -19,7 +19,7 @@ use standings::{Cell, CountedCells, PLACES};
 
 // What the standing s of an event becomes: an open one what the template says without a target.
 fn closed(rule: Rule, s: Standing) -> Standing
-    ensures { result ≡ cond (isOpen s) (decided (polarityOf rule) 0) s }
+    ensures { result ≡ cond (is_open s) (decided (polarity_of rule) 0) s }
 {
     if !is_open(s) {
         return s;
@@ -36,7 +36,7 @@ fn closed_cells(
     mut cells: [Cell; PLACES],
     mut totals: [Totals; RULES],
 ) -> CountedCells
-    requires { table.count ≤ mostRules }
+    requires { table.count ≤ most_rules }
     ensures { ClosedCells table cells totals result }
 {
     let end = table.count * EVENTS;
@@ -62,7 +62,7 @@ impl Run {
     // The run with its open standings decided, and closed. Refused with 11 or 9, the run then as it
     // was.
     pub fn close(self) -> Step
-        ensures { (stepAnswer result ≡ closeOf self) × (result.run ≡ after_call self (closeOf self)) }
+        ensures { (step_answer result ≡ close_of self) × (result.run ≡ after_call self (close_of self)) }
     {
         if !valid_run(self) {
             return self.refused(Refusal::InvalidRecord);

@@ -1,6 +1,6 @@
 // A finished cycle, closed at once.
 ghost use Rattle.std.specs.Prelude.{◌≡◌};
-ghost use Rattle.run.specs.Close.{finishedRun};
+ghost use Rattle.run.specs.Close.{finished_run};
 
 use crate::Run;
 use declare::{EVENTS, Event, Table};
@@ -14,7 +14,7 @@ impl Run {
     // position is judged once, on the whole cycle. The horizon is not looked at: nothing more
     // comes.
     pub fn finished(table: Table, count: usize, events: [Event; EVENTS]) -> Run
-        ensures { result ≡ finishedRun table count events }
+        ensures { result ≡ finished_run table count events }
     {
         let overall = judge_overall(false, table, events, count, 0, idle_overall());
         let begun = zero_totals(table, overall, idle_totals());

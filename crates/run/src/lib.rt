@@ -1,10 +1,10 @@
 // A running cycle: its record, and the calls start, take, notice, standing, totals and close.
 ghost use Rattle.std.specs.Prelude.{◌≡◌, ◌≤◌, take};
-ghost use Rattle.declare.specs.Limits.{mostEvents};
+ghost use Rattle.declare.specs.Limits.{most_events};
 ghost use Rattle.declare.specs.Continuations.{horizon};
 ghost use Rattle.run.specs.declared.Outcome.TheVariants.{Done, Refused};
-ghost use Rattle.run.specs.Records.{horizonOf, withEvents, withClock};
-ghost use Rattle.run.specs.Calls.{judgedRun};
+ghost use Rattle.run.specs.Records.{horizon_of, with_events, with_clock};
+ghost use Rattle.run.specs.Calls.{judged_run};
 
 use declare::{EVENTS, Event, RULES, Refusal, Standing, Table};
 use judge::cells::judge_cells;
@@ -22,7 +22,7 @@ mod queries; // queries.rt: standing and totals
 
 // A run: its rules, the first `count` of its event slots, the standings, at its events and at
 // position 0, the totals of each rule, and the time of the last clock notice.
-#[derive(Drop)]
+#[derive(Clone, Copy)]
 pub struct Run {
     pub closed: bool,
     pub table: Table,
@@ -35,28 +35,28 @@ pub struct Run {
 }
 
 // Of start, take, notice and close: done, or why not.
-#[derive(Drop)]
+#[derive(Clone, Copy)]
 pub enum Outcome {
     Done,
     Refused(Refusal),
 }
 
 // The outcome, and beside it the next run; after a refusal the same run.
-#[derive(Drop)]
+#[derive(Clone, Copy)]
 pub struct Step {
     pub outcome: Outcome,
     pub run: Run,
 }
 
 // What standing answers.
-#[derive(Drop)]
+#[derive(Clone, Copy)]
 pub enum StandingAnswer {
     Is(Standing),
     Refused(Refusal),
 }
 
 // What totals answers.
-#[derive(Drop)]
+#[derive(Clone, Copy)]
 pub enum TotalsAnswer {
     Are(Totals),
     Refused(Refusal),
@@ -64,7 +64,7 @@ pub enum TotalsAnswer {
 
 // The earliest time that an event may have after the first `count` of these and a notice.
 fn horizon(count: usize, events: [Event; EVENTS], clock: u32) -> u32
-    requires { count ≤ mostEvents }
+    requires { count ≤ most_events }
     ensures { result ≡ horizon (record { events = take count events; clock = clock }) }
 {
     if count == 0 {
@@ -91,8 +91,8 @@ impl Run {
     // A call accepted: the run with these events and this kept time, its standings judged anew, the
     // decided ones kept, and counted. No further event comes before `horizon`.
     fn accepted(self, count: usize, events: [Event; EVENTS], clock: u32, horizon: u32) -> Step
-        requires { horizon ≡ horizonOf (withClock (withEvents self count events) clock) }
-        ensures { result ≡ record { outcome = Done; run = judgedRun (withClock (withEvents self count events) clock) } }
+        requires { horizon ≡ horizon_of (with_clock (with_events self count events) clock) }
+        ensures { result ≡ record { outcome = Done; run = judged_run (with_clock (with_events self count events) clock) } }
     {
         let table = self.table;
         let cells = self.cells;

@@ -1,8 +1,8 @@
 // The call notice: the clock moves, and no event comes.
 ghost use Rattle.std.specs.Prelude.{◌≡◌};
 ghost use Rattle.declare.specs.Answers.{after_call};
-ghost use Rattle.run.specs.Answers.{stepAnswer};
-ghost use Rattle.run.specs.Calls.{noticeOf};
+ghost use Rattle.run.specs.Answers.{step_answer};
+ghost use Rattle.run.specs.Calls.{notice_of};
 
 use crate::record::valid_run;
 use crate::{Run, Step, horizon};
@@ -12,7 +12,7 @@ impl Run {
     // The run with this time kept, its standings judged anew. Refused with 11, 9, 3 or 7, the run
     // then as it was.
     pub fn notice(self, time: u64) -> Step
-        ensures { (stepAnswer result ≡ noticeOf self time) × (result.run ≡ after_call self (noticeOf self time)) }
+        ensures { (step_answer result ≡ notice_of self time) × (result.run ≡ after_call self (notice_of self time)) }
     {
         if !valid_run(self) {
             return self.refused(Refusal::InvalidRecord);

@@ -1,7 +1,7 @@
 // The calls standing and totals: what a record says, without changing it.
 ghost use Rattle.std.specs.Prelude.{◌≡◌};
-ghost use Rattle.run.specs.Answers.{standingAnswer, totalsAnswer};
-ghost use Rattle.run.specs.Queries.{one_of, isPosition, standingOf, totalsOf};
+ghost use Rattle.run.specs.Answers.{standing_answer, totals_answer};
+ghost use Rattle.run.specs.Queries.{one_of, is_position, standing_of, totals_of};
 
 use crate::record::valid_run;
 use crate::{Run, StandingAnswer, TotalsAnswer};
@@ -18,7 +18,7 @@ fn one_of(n: usize, k: usize) -> bool
 
 // Whether i is a position of rule k, of n events.
 fn is_position(table: Table, n: usize, k: usize, i: usize) -> bool
-    ensures { result ≡ isPosition table n k i }
+    ensures { result ≡ is_position table n k i }
 {
     if i == 0 {
         return is_overall_rule(table, k);
@@ -29,7 +29,7 @@ fn is_position(table: Table, n: usize, k: usize, i: usize) -> bool
 impl Run {
     // The standing of a rule's position. Refused with 11 or 10.
     pub fn standing(self, rule: usize, position: usize) -> StandingAnswer
-        ensures { standingAnswer result ≡ standingOf self rule position }
+        ensures { standing_answer result ≡ standing_of self rule position }
     {
         if !valid_run(self) {
             return StandingAnswer::Refused(Refusal::InvalidRecord);
@@ -50,7 +50,7 @@ impl Run {
 
     // The stored totals of a rule. Refused with 11 or 10.
     pub fn totals(self, rule: usize) -> TotalsAnswer
-        ensures { totalsAnswer result ≡ totalsOf self rule }
+        ensures { totals_answer result ≡ totals_of self rule }
     {
         if !valid_run(self) {
             return TotalsAnswer::Refused(Refusal::InvalidRecord);

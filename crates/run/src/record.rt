@@ -1,10 +1,10 @@
 // Whether a record is valid: the causes of refusal 11.
 ghost use Rattle.std.specs.Prelude.{◌≡◌, true, cond, ◌+◌, ◌≤◌, leb, get_or};
 ghost use Rattle.declare.specs.Lists.{all_below};
-ghost use Rattle.declare.specs.Limits.{mostRules, mostEvents};
-ghost use Rattle.declare.specs.Standings.{isIdle};
-ghost use Rattle.standings.specs.Totals.{noTotals, rowTotals};
-ghost use Rattle.run.specs.Records.{validEvents, validStanding, EventsJudged, validStandings, validZero, validOverall, sameTotals, validRun};
+ghost use Rattle.declare.specs.Limits.{most_rules, most_events};
+ghost use Rattle.declare.specs.Standings.{is_idle};
+ghost use Rattle.standings.specs.Totals.{no_totals, row_totals};
+ghost use Rattle.run.specs.Records.{valid_events, valid_standing, EventsJudged, valid_standings, valid_zero, valid_overall, same_totals, valid_run};
 
 use crate::Run;
 use declare::codes::is_overall;
@@ -17,7 +17,7 @@ use standings::{Cell, PLACES};
 
 // Whether the first `count` events are well-formed and their times do not fall.
 fn valid_events(count: usize, events: [Event; EVENTS]) -> bool
-    ensures { result ≡ validEvents count events }
+    ensures { result ≡ valid_events count events }
 {
     if EVENTS < count {
         return false;
@@ -41,7 +41,7 @@ fn position(target: u16) -> usize
 
 // Whether s may stand at a taken position.
 fn valid_standing(closed: bool, count: usize, s: Standing) -> bool
-    ensures { result ≡ validStanding closed count s }
+    ensures { result ≡ valid_standing closed count s }
 {
     match s {
         Standing::Idle => true,
@@ -54,7 +54,7 @@ fn valid_standing(closed: bool, count: usize, s: Standing) -> bool
 // Whether s may stand at place p of a row, that is at position p + 1, if so many of the events are
 // judged: idle may stand anywhere, and most are.
 fn valid_at(closed: bool, count: usize, judged: usize, p: usize, s: Standing) -> bool
-    ensures { result ≡ cond (leb (p + 1) judged) (validStanding closed count s) (isIdle s) }
+    ensures { result ≡ cond (leb (p + 1) judged) (valid_standing closed count s) (is_idle s) }
 {
     if is_idle(s) {
         return true;
@@ -67,7 +67,7 @@ fn valid_at(closed: bool, count: usize, judged: usize, p: usize, s: Standing) ->
 
 // Under each rule, how many of the events are judged.
 fn events_judged(table: Table, count: usize) -> [usize; RULES]
-    requires { table.count ≤ mostRules }
+    requires { table.count ≤ most_rules }
     ensures { EventsJudged table count result }
 {
     let mut counts = [count; RULES];
@@ -81,7 +81,7 @@ fn events_judged(table: Table, count: usize) -> [usize; RULES]
 }
 
 // The rules' rows after the check: whether they are valid, and then their totals.
-#[derive(Drop)]
+#[derive(Clone, Copy)]
 struct CheckedRows {
     valid: bool,
     totals: [Totals; RULES],
@@ -95,8 +95,8 @@ fn checked_rows(
     cells: [Cell; PLACES],
     mut totals: [Totals; RULES],
 ) -> CheckedRows
-    requires { (table.count ≤ mostRules) × (count ≤ mostEvents) }
-    ensures { (result.valid ≡ validStandings closed table count cells) × (result.valid ≡ true → result.totals ≡ rowTotals table.count count cells totals) }
+    requires { (table.count ≤ most_rules) × (count ≤ most_events) }
+    ensures { (result.valid ≡ valid_standings closed table count cells) × (result.valid ≡ true → result.totals ≡ row_totals table.count count cells totals) }
 {
     let counts = events_judged(table, count);
     let end = table.count * EVENTS;
@@ -123,15 +123,15 @@ fn checked_rows(
 
 // Whether s may stand at position 0, under a rule about the cycle.
 fn valid_zero(closed: bool, count: usize, s: Standing) -> bool
-    ensures { result ≡ validZero closed count s }
+    ensures { result ≡ valid_zero closed count s }
 {
     !is_idle(s) & valid_standing(closed, count, s)
 }
 
 // Whether every rule about the cycle is judged there; position 0 of other rules is not read.
 fn valid_overall(closed: bool, table: Table, count: usize, overall: [Cell; RULES]) -> bool
-    requires { table.count ≤ mostRules }
-    ensures { result ≡ validOverall closed table count overall }
+    requires { table.count ≤ most_rules }
+    ensures { result ≡ valid_overall closed table count overall }
 {
     for k in 0..table.count {
         let rule = table.rules[k];
@@ -149,7 +149,7 @@ fn valid_overall(closed: bool, table: Table, count: usize, overall: [Cell; RULES
 
 // Whether the two are equal in all four.
 fn same_totals(a: Totals, b: Totals) -> bool
-    ensures { result ≡ sameTotals a b }
+    ensures { result ≡ same_totals a b }
 {
     (a.activations == b.activations)
         & (a.fulfilled == b.fulfilled)
@@ -159,8 +159,8 @@ fn same_totals(a: Totals, b: Totals) -> bool
 
 // Whether the stored totals of each rule are those counted.
 fn valid_totals(rules: usize, stored: [Totals; RULES], counted: [Totals; RULES]) -> bool
-    requires { rules ≤ mostRules }
-    ensures { result ≡ all_below (λ k. sameTotals (get_or stored k noTotals) (get_or counted k noTotals)) rules }
+    requires { rules ≤ most_rules }
+    ensures { result ≡ all_below (λ k. same_totals (get_or stored k no_totals) (get_or counted k no_totals)) rules }
 {
     for k in 0..rules {
         let a = stored[k];
@@ -174,7 +174,7 @@ fn valid_totals(rules: usize, stored: [Totals; RULES], counted: [Totals; RULES])
 
 // Whether nothing in the record is a cause of refusal 11.
 pub fn valid_run(run: Run) -> bool
-    ensures { result ≡ validRun run }
+    ensures { result ≡ valid_run run }
 {
     let table = run.table;
     let events = run.events;

@@ -1,7 +1,7 @@
 // The call start: the run for a table of rules.
 ghost use Rattle.std.specs.Prelude.{◌≡◌};
-ghost use Rattle.run.specs.Answers.{stepAnswer};
-ghost use Rattle.run.specs.Start.{newRun, start_of, started};
+ghost use Rattle.run.specs.Answers.{step_answer};
+ghost use Rattle.run.specs.Start.{new_run, start_of, started};
 
 use crate::{Outcome, Run, Step};
 use declare::slots::{empty_slot, empty_table};
@@ -13,7 +13,7 @@ use standings::{idle_cells, idle_overall};
 
 // The run that has taken nothing yet.
 pub fn new_run(table: Table) -> Run
-    ensures { result ≡ newRun table }
+    ensures { result ≡ new_run table }
 {
     let slot = empty_slot();
     let events = [slot; EVENTS];
@@ -35,7 +35,7 @@ impl Run {
     // The run for a table. Refused with 11 if the table is not valid; beside that stands the run
     // for the empty table.
     pub fn start(table: Table) -> Step
-        ensures { (stepAnswer result ≡ start_of table) × (result.run ≡ started table) }
+        ensures { (step_answer result ≡ start_of table) × (result.run ≡ started table) }
     {
         if !valid_table(table) {
             return Step {

@@ -1,7 +1,7 @@
 // The store of a run's standings: sixteen rows, one a rule, of 256 cells, one a position, in one
 // flat array.
 ghost use Rattle.std.specs.Prelude.{◌≡◌};
-ghost use Rattle.standings.specs.Places.{idleCells, idleOverall, standingIn, zeroIn};
+ghost use Rattle.standings.specs.Places.{idle_cells, idle_overall, standing_in, zero_in};
 
 use crate::place::row_start;
 use crate::totals::Totals;
@@ -15,13 +15,13 @@ pub mod totals; // totals.rt: the totals of a rule
 // The cells of all rules.
 pub const PLACES: usize = 4096;
 
-#[derive(Drop)]
+#[derive(Clone, Copy)]
 pub struct Cell {
     pub standing: Standing,
 }
 
 // The cells of all rules, and totals that count them.
-#[derive(Drop)]
+#[derive(Clone, Copy)]
 pub struct CountedCells {
     pub cells: [Cell; PLACES],
     pub totals: [Totals; RULES],
@@ -29,7 +29,7 @@ pub struct CountedCells {
 
 // As start gives them.
 pub fn idle_cells() -> [Cell; PLACES]
-    ensures { result ≡ idleCells }
+    ensures { result ≡ idle_cells }
 {
     let idle = Cell {
         standing: Standing::Idle,
@@ -39,7 +39,7 @@ pub fn idle_cells() -> [Cell; PLACES]
 
 // The same for position 0, one cell a rule.
 pub fn idle_overall() -> [Cell; RULES]
-    ensures { result ≡ idleOverall }
+    ensures { result ≡ idle_overall }
 {
     let idle = Cell {
         standing: Standing::Idle,
@@ -49,7 +49,7 @@ pub fn idle_overall() -> [Cell; RULES]
 
 // The standing of a rule's position; both count from 1. Past the cells it is idle.
 pub fn standing_in(cells: [Cell; PLACES], rule: usize, position: usize) -> Standing
-    ensures { result ≡ standingIn cells rule position }
+    ensures { result ≡ standing_in cells rule position }
 {
     let first = row_start(rule);
     let p = less_one(position);
@@ -62,7 +62,7 @@ pub fn standing_in(cells: [Cell; PLACES], rule: usize, position: usize) -> Stand
 
 // The standing of a rule at position 0: that of its cell, if it is about the cycle as such.
 pub fn zero_in(table: Table, cells: [Cell; RULES], rule: usize) -> Standing
-    ensures { result ≡ zeroIn table cells rule }
+    ensures { result ≡ zero_in table cells rule }
 {
     let k = less_one(rule);
     if !is_overall_rule(table, rule) | (RULES <= k) {

@@ -1,6 +1,6 @@
 // Where the rows begin.
 ghost use Rattle.std.specs.Prelude.{◌≡◌, ◌-◌, ◌*◌, min};
-ghost use Rattle.declare.specs.Limits.{mostEvents};
+ghost use Rattle.declare.specs.Limits.{most_events};
 ghost use Rattle.standings.specs.Places.{places};
 
 use crate::PLACES;
@@ -9,7 +9,7 @@ use declare::{EVENTS, RULES};
 
 // The first place of a rule's row; past the rules, the place past all cells.
 pub fn row_start(rule: usize) -> usize
-    ensures { result ≡ min ((rule - 1) * mostEvents) places }
+    ensures { result ≡ min ((rule - 1) * most_events) places }
 {
     let row = less_one(rule);
     if RULES <= row {

@@ -1,8 +1,8 @@
 // The totals of a rule: how many of its positions stand in each way.
 ghost use Rattle.std.specs.Prelude.{◌≡◌, cond};
 ghost use Rattle.declare.specs.declared.Standing.TheVariants.{Idle};
-ghost use Rattle.declare.specs.Overall.{isOverall};
-ghost use Rattle.standings.specs.Totals.{noTotals, oneMore, withStanding, idleTotals, zeroTotals};
+ghost use Rattle.declare.specs.Overall.{is_overall};
+ghost use Rattle.standings.specs.Totals.{no_totals, one_more, with_standing, idle_totals, zero_totals};
 
 use crate::Cell;
 use declare::codes::is_overall;
@@ -11,7 +11,7 @@ use declare::{RULES, Standing, Table};
 
 // How many positions of a rule are not idle, and how many of these are fulfilled, violated and
 // open.
-#[derive(Drop)]
+#[derive(Clone, Copy)]
 pub struct Totals {
     pub activations: u16,
     pub fulfilled: u16,
@@ -21,7 +21,7 @@ pub struct Totals {
 
 // Of no positions.
 pub fn no_totals() -> Totals
-    ensures { result ≡ noTotals }
+    ensures { result ≡ no_totals }
 {
     Totals {
         activations: 0,
@@ -33,14 +33,14 @@ pub fn no_totals() -> Totals
 
 // One more, in 16 bits.
 fn one_more(n: u16) -> u16
-    ensures { result ≡ oneMore n }
+    ensures { result ≡ one_more n }
 {
     if n < 65535 { n + 1 } else { 0 }
 }
 
 // The totals of one position more, with the standing s.
 pub fn with_standing(t: Totals, s: Standing) -> Totals
-    ensures { result ≡ withStanding t s }
+    ensures { result ≡ with_standing t s }
 {
     match s {
         Standing::Idle => t,
@@ -67,7 +67,7 @@ pub fn with_standing(t: Totals, s: Standing) -> Totals
 
 // Of all rules, as start gives them.
 pub fn idle_totals() -> [Totals; RULES]
-    ensures { result ≡ idleTotals }
+    ensures { result ≡ idle_totals }
 {
     let none = no_totals();
     [none; RULES]
@@ -75,7 +75,7 @@ pub fn idle_totals() -> [Totals; RULES]
 
 // The standing at position 0 of a rule with this code and cell.
 fn zero_of(code: u8, c: Cell) -> Standing
-    ensures { result ≡ cond (isOverall code) c.standing Idle }
+    ensures { result ≡ cond (is_overall code) c.standing Idle }
 {
     if is_overall(code) {
         c.standing
@@ -91,7 +91,7 @@ pub fn zero_totals(
     overall: [Cell; RULES],
     mut totals: [Totals; RULES],
 ) -> [Totals; RULES]
-    ensures { result ≡ zeroTotals table overall totals }
+    ensures { result ≡ zero_totals table overall totals }
 {
     let rules = min(table.count, RULES);
     for k in 0..rules {

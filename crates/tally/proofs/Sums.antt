@@ -14,88 +14,88 @@ use Rattle.standings.specs.declared.totals.Totals.{Totals}
 use Rattle.run.specs.declared.Run.{Run}
 use Rattle.run.specs.declared.TotalsAnswer.{TotalsAnswer}
 use Rattle.run.specs.declared.TotalsAnswer.TheVariants.{Are, Refused as NoTotals}
-use Rattle.run.specs.Answers.{totalsAnswer}
-use Rattle.run.specs.Records.{totalsIn, storedTotals, validRun}
-use Rattle.run.specs.Queries.{one_of, totalsOf}
-use Rattle.run.proofs.Answered.{totals-counted}
+use Rattle.run.specs.Answers.{totals_answer}
+use Rattle.run.specs.Records.{totals_in, stored_totals, valid_run}
+use Rattle.run.specs.Queries.{one_of, totals_of}
+use Rattle.run.proofs.Answered.{totals_counted}
 use Rattle.tally.specs.declared.Tally.{Tally}
 use Rattle.tally.specs.declared.Sum.{Sum}
 use Rattle.tally.specs.declared.CountedAnswer.TheVariants.{Are as Brings}
 use Rattle.tally.specs.declared.Counted.{Counted}
 use Rattle.tally.specs.declared.Outcome.{Outcome}
-use Rattle.tally.specs.Tally.{mostCounted, hasRoomFor, countsOf, withTotals, tallyAnswer, countedAnswer, withCounted, Counts, Absorbs}
-use Rattle.tally.specs.Sums.{summed, countedFor, countedBy}
+use Rattle.tally.specs.Tally.{most_counted, has_room_for, counts_of, with_totals, tally_answer, counted_answer, with_counted, Counts, Absorbs}
+use Rattle.tally.specs.Sums.{summed, counted_for, counted_by}
 
 -- the four sums stay in range
 pub record Room (t : Tally) (c : Totals) : Type 0 where
-  pub cycles : t.cycles + 1 ≤ mostCounted
-  pub activations : t.activations + c.activations ≤ mostCounted
-  pub fulfilled : t.fulfilled + c.fulfilled ≤ mostCounted
-  pub violated : t.violated + c.violated ≤ mostCounted
+  pub cycles : t.cycles + 1 ≤ most_counted
+  pub activations : t.activations + c.activations ≤ most_counted
+  pub fulfilled : t.fulfilled + c.fulfilled ≤ most_counted
+  pub violated : t.violated + c.violated ≤ most_counted
 
-pub room : (t : Tally) (c : Totals) → hasRoomFor t c ≡ true → Room t c
-unfolding hasRoomFor
+pub room : (t : Tally) (c : Totals) → has_room_for t c ≡ true → Room t c
+unfolding has_room_for
 room t c h =
-    let p : (leb (t.cycles + 1) mostCounted ≡ true) × (leb (t.activations + c.activations) mostCounted ≡ true) × (leb (t.fulfilled + c.fulfilled) mostCounted ≡ true) × (leb (t.violated + c.violated) mostCounted ≡ true) = and₄ h in
+    let p : (leb (t.cycles + 1) most_counted ≡ true) × (leb (t.activations + c.activations) most_counted ≡ true) × (leb (t.fulfilled + c.fulfilled) most_counted ≡ true) × (leb (t.violated + c.violated) most_counted ≡ true) = and₄ h in
     record {
-      cycles = leb-true (t.cycles + 1) mostCounted p.0;
-      activations = leb-true (t.activations + c.activations) mostCounted p.1;
-      fulfilled = leb-true (t.fulfilled + c.fulfilled) mostCounted p.2;
-      violated = leb-true (t.violated + c.violated) mostCounted p.3;
+      cycles = leb-true (t.cycles + 1) most_counted p.0;
+      activations = leb-true (t.activations + c.activations) most_counted p.1;
+      fulfilled = leb-true (t.fulfilled + c.fulfilled) most_counted p.2;
+      violated = leb-true (t.violated + c.violated) most_counted p.3;
     }
 
 -- ---- what a rule of a run brings
 
 -- the totals' answer, and then whether the run is closed
-closedTotals : Bool → Totals → Answer Totals
-closedTotals closed c = do
+closed_totals : Bool → Totals → Answer Totals
+closed_totals closed c = do
   require closed 9
   accepted c
 
-by-totals : (r : Run) (rule : ℕ) → countsOf r rule ≡ (totalsOf r rule >>= closedTotals r.closed)
-unfolding countsOf closedTotals ◌>>=◌ ◌>>◌ require
-by-totals r rule = rw (totals-counted r rule) (go (validRun r) refl (one_of r.table.count rule) refl)
+by_totals : (r : Run) (rule : ℕ) → counts_of r rule ≡ (totals_of r rule >>= closed_totals r.closed)
+unfolding counts_of closed_totals ◌>>=◌ ◌>>◌ require
+by_totals r rule = rw (totals_counted r rule) (go (valid_run r) refl (one_of r.table.count rule) refl)
   where
-    go : (v : Bool) → validRun r ≡ v → (o : Bool) → one_of r.table.count rule ≡ o → countsOf r rule ≡ ((require v 11 >> (require o 10 >> accepted (totalsIn r rule))) >>= closedTotals r.closed)
+    go : (v : Bool) → valid_run r ≡ v → (o : Bool) → one_of r.table.count rule ≡ o → counts_of r rule ≡ ((require v 11 >> (require o 10 >> accepted (totals_in r rule))) >>= closed_totals r.closed)
     go false e o f = rw e
     go true e false f = rw (e, f)
     go true e true f = rw (e, f)
 
-of-totals : (closed : Bool) (c : Totals) → countedAnswer (countedBy closed (Are c)) ≡ closedTotals closed c
-unfolding countedAnswer countedBy closedTotals ◌>>◌ require
-of-totals false c = refl
-of-totals true c = refl
+of_totals_lem : (closed : Bool) (c : Totals) → counted_answer (counted_by closed (Are c)) ≡ closed_totals closed c
+unfolding counted_answer counted_by closed_totals ◌>>◌ require
+of_totals_lem false c = refl
+of_totals_lem true c = refl
 
 -- a refusal of the totals is 11 or 10
-of-refusal : (r : Run) (rule : ℕ) (cause : Refusal) → refused (number_of cause) ≡ totalsOf r rule → countedAnswer (countedFor cause) ≡ refused (number_of cause)
-unfolding totalsOf ◌>>◌ require countedAnswer countedFor
-of-refusal r rule cause e = go (validRun r) (one_of r.table.count rule) e
+of_refusal : (r : Run) (rule : ℕ) (cause : Refusal) → refused (number_of cause) ≡ totals_of r rule → counted_answer (counted_for cause) ≡ refused (number_of cause)
+unfolding totals_of ◌>>◌ require counted_answer counted_for
+of_refusal r rule cause e = go (valid_run r) (one_of r.table.count rule) e
   where
-    go : (v o : Bool) → refused (number_of cause) ≡ (require v 11 >> (require o 10 >> accepted (storedTotals r rule))) → countedAnswer (countedFor cause) ≡ refused (number_of cause)
+    go : (v o : Bool) → refused (number_of cause) ≡ (require v 11 >> (require o 10 >> accepted (stored_totals r rule))) → counted_answer (counted_for cause) ≡ refused (number_of cause)
     go false o q = let n : number_of cause ≡ 11 = cc in rw n refl
     go true false q = let n : number_of cause ≡ 10 = cc in rw n refl
     go true true q = absurd (no_of q)
 
-says : (r : Run) (rule : ℕ) (a : TotalsAnswer) → totalsAnswer a ≡ totalsOf r rule → countedAnswer (countedBy r.closed a) ≡ (totalsAnswer a >>= closedTotals r.closed)
-unfolding totalsAnswer countedBy ◌>>=◌
-says r rule (Are c) e = of-totals r.closed c
-says r rule (NoTotals cause) e = of-refusal r rule cause e
+says : (r : Run) (rule : ℕ) (a : TotalsAnswer) → totals_answer a ≡ totals_of r rule → counted_answer (counted_by r.closed a) ≡ (totals_answer a >>= closed_totals r.closed)
+unfolding totals_answer counted_by ◌>>=◌
+says r rule (Are c) e = of_totals_lem r.closed c
+says r rule (NoTotals cause) e = of_refusal r rule cause e
 
-pub counts : (r : Run) (rule : ℕ) (a : TotalsAnswer) (c : Counted) → totalsAnswer a ≡ totalsOf r rule → c.answer ≡ countedBy r.closed a → Counts r rule c
+pub counts : (r : Run) (rule : ℕ) (a : TotalsAnswer) (c : Counted) → totals_answer a ≡ totals_of r rule → c.answer ≡ counted_by r.closed a → Counts r rule c
 counts r rule a c e q =
-    record { answers = ap countedAnswer q ∙ says r rule a e ∙ ap (λ (x : Answer Totals). x >>= closedTotals r.closed) e ∙ sym (by-totals r rule) }
+    record { answers = ap counted_answer q ∙ says r rule a e ∙ ap (λ (x : Answer Totals). x >>= closed_totals r.closed) e ∙ sym (by_totals r rule) }
 
 -- ---- what the tally becomes
 
-pub absorbs-totals : (t : Tally) (c : Counted) (totals : Totals) (s : Sum) → c.answer ≡ Brings totals → s ≡ summed t totals → Absorbs t c s.tally s.outcome
-unfolding countedAnswer tallyAnswer withCounted withTotals summed after_call ◌>>=◌ ◌>>◌ require
-absorbs-totals t c totals s a q = go (hasRoomFor t totals) refl
+pub absorbs_totals : (t : Tally) (c : Counted) (totals : Totals) (s : Sum) → c.answer ≡ Brings totals → s ≡ summed t totals → Absorbs t c s.tally s.outcome
+unfolding counted_answer tally_answer with_counted with_totals summed after_call ◌>>=◌ ◌>>◌ require
+absorbs_totals t c totals s a q = go (has_room_for t totals) refl
   where
-    go : (f : Bool) → hasRoomFor t totals ≡ f → Absorbs t c s.tally s.outcome
+    go : (f : Bool) → has_room_for t totals ≡ f → Absorbs t c s.tally s.outcome
     go true e = record { answers = rw (q, a, e); leaves = rw (q, a, e) }
     go false e = record { answers = rw (q, a, e); leaves = rw (q, a, e) }
 
 -- a refusal is passed on
-pub absorbs-none : (t : Tally) (c : Counted) (o : Outcome) (n : ℕ) → tallyAnswer t o ≡ refused n → countedAnswer c.answer ≡ refused n → Absorbs t c t o
-unfolding withCounted after_call ◌>>=◌
-absorbs-none t c o n answers brings = record { answers = rw (answers, brings) refl; leaves = rw brings refl }
+pub absorbs_none : (t : Tally) (c : Counted) (o : Outcome) (n : ℕ) → tally_answer t o ≡ refused n → counted_answer c.answer ≡ refused n → Absorbs t c t o
+unfolding with_counted after_call ◌>>=◌
+absorbs_none t c o n answers brings = record { answers = rw (answers, brings) refl; leaves = rw brings refl }

@@ -8,11 +8,11 @@ use Rattle.declare.specs.Refusals.{number_of}
 use Rattle.declare.specs.Answers.{Answer, accepted, refused, after_call}
 use Rattle.run.specs.declared.Run.{Run}
 use Rattle.standings.specs.declared.totals.Totals.{Totals}
-use Rattle.run.specs.RecordCases.{Case, ◌is◌, AsExpected, ofStandings, totals}
+use Rattle.run.specs.RecordCases.{Case, ◌is◌, AsExpected, of_standings, totals}
 use Rattle.tally.specs.declared.Tally.{Tally}
 use Rattle.tally.specs.declared.Outcome.TheVariants as Outcome
 use Rattle.tally.specs.declared.CountedAnswer.TheVariants as CountedAnswer
-use Rattle.tally.specs.Tally.{hasRoomFor, added, countsOf, withTotals, absorbOf, tallyAnswer, countedAnswer}
+use Rattle.tally.specs.Tally.{has_room_for, added, counts_of, with_totals, absorb_of, tally_answer, counted_answer}
 
 -- cycles, activations, fulfilled, violated
 abbrev pub tally : ℕ → ℕ → ℕ → ℕ → Tally
@@ -24,15 +24,15 @@ tally cycles activations fulfilled violated =
 -- "a tally field would pass 4294967295": each field alone; what is open is no field of a tally
 unfoldable pub limits : List (Case Bool)
 limits =
-    hasRoomFor (tally 4294967294 0 0 0) (totals 0 0 0 0) is true
-    ∷ hasRoomFor (tally 4294967295 0 0 0) (totals 0 0 0 0) is false
-    ∷ hasRoomFor (tally 0 4294967290 0 0) (totals 5 0 0 0) is true
-    ∷ hasRoomFor (tally 0 4294967290 0 0) (totals 6 0 0 0) is false
-    ∷ hasRoomFor (tally 0 0 4294967290 0) (totals 0 5 0 0) is true
-    ∷ hasRoomFor (tally 0 0 4294967290 0) (totals 0 6 0 0) is false
-    ∷ hasRoomFor (tally 0 0 0 4294967290) (totals 0 0 5 0) is true
-    ∷ hasRoomFor (tally 0 0 0 4294967290) (totals 0 0 6 0) is false
-    ∷ hasRoomFor (tally 4294967294 4294967290 4294967290 4294967290) (totals 5 5 5 6) is true
+    has_room_for (tally 4294967294 0 0 0) (totals 0 0 0 0) is true
+    ∷ has_room_for (tally 4294967295 0 0 0) (totals 0 0 0 0) is false
+    ∷ has_room_for (tally 0 4294967290 0 0) (totals 5 0 0 0) is true
+    ∷ has_room_for (tally 0 4294967290 0 0) (totals 6 0 0 0) is false
+    ∷ has_room_for (tally 0 0 4294967290 0) (totals 0 5 0 0) is true
+    ∷ has_room_for (tally 0 0 4294967290 0) (totals 0 6 0 0) is false
+    ∷ has_room_for (tally 0 0 0 4294967290) (totals 0 0 5 0) is true
+    ∷ has_room_for (tally 0 0 0 4294967290) (totals 0 0 6 0) is false
+    ∷ has_room_for (tally 4294967294 4294967290 4294967290 4294967290) (totals 5 5 5 6) is true
     ∷ []
 
 -- "cycles by 1, the others by that rule's totals"
@@ -48,28 +48,28 @@ sums =
 -- two rules, three events; the standing s at position 3 under rule 2
 abbrev pub run : Bool → Standing → Run
 run closed s =
-    ofStandings closed 2 3 (Fulfilled 3 ∷ replicate 255 Idle ++ (Fulfilled 2 ∷ Violated 0 ∷ s ∷ []))
+    of_standings closed 2 3 (Fulfilled 3 ∷ replicate 255 Idle ++ (Fulfilled 2 ∷ Violated 0 ∷ s ∷ []))
 
 -- "tally: 11, 10, 9": an earlier cause is said before a later one
 unfoldable pub counts : List (Case (Answer Totals))
 counts =
-    countsOf (run true (Violated 0)) 1 is accepted (totals 1 1 0 0)
-    ∷ countsOf (run true (Violated 0)) 2 is accepted (totals 3 1 2 0)
-    ∷ countsOf (run false Open) 2 is refused 9
-    ∷ countsOf (run true Idle) 0 is refused 10
-    ∷ countsOf (run true Idle) 3 is refused 10
-    ∷ countsOf (run false Idle) 3 is refused 10
-    ∷ countsOf (run true Open) 1 is refused 11
-    ∷ countsOf (run false (Violated 4)) 3 is refused 11
+    counts_of (run true (Violated 0)) 1 is accepted (totals 1 1 0 0)
+    ∷ counts_of (run true (Violated 0)) 2 is accepted (totals 3 1 2 0)
+    ∷ counts_of (run false Open) 2 is refused 9
+    ∷ counts_of (run true Idle) 0 is refused 10
+    ∷ counts_of (run true Idle) 3 is refused 10
+    ∷ counts_of (run false Idle) 3 is refused 10
+    ∷ counts_of (run true Open) 1 is refused 11
+    ∷ counts_of (run false (Violated 4)) 3 is refused 11
     ∷ []
 
 -- "..., 14"
 unfoldable pub absorbed : List (Case (Answer Tally))
 absorbed =
-    withTotals (tally 1 20 300 4000) (totals 5 6 7 8) is accepted (tally 2 25 306 4007)
-    ∷ withTotals (tally 4294967295 0 0 0) (totals 0 0 0 0) is refused 14
-    ∷ absorbOf (run true Idle) 3 (tally 4294967295 0 0 0) is refused 10
-    ∷ absorbOf (run true Idle) 2 (tally 6 5 4 3) is accepted (tally 7 7 5 4)
+    with_totals (tally 1 20 300 4000) (totals 5 6 7 8) is accepted (tally 2 25 306 4007)
+    ∷ with_totals (tally 4294967295 0 0 0) (totals 0 0 0 0) is refused 14
+    ∷ absorb_of (run true Idle) 3 (tally 4294967295 0 0 0) is refused 10
+    ∷ absorb_of (run true Idle) 2 (tally 6 5 4 3) is accepted (tally 7 7 5 4)
     ∷ []
 
 -- ---- what stands beside an answer
@@ -84,26 +84,26 @@ afterwards =
 -- an answer of the code has the number of the refusal of that name
 unfoldable pub answers : List (Case (Answer Tally))
 answers =
-    tallyAnswer (tally 1 2 3 4) Outcome.Absorbed is accepted (tally 1 2 3 4)
-    ∷ tallyAnswer (tally 1 2 3 4) Outcome.InvalidRecord is refused (number_of InvalidRecord)
-    ∷ tallyAnswer (tally 1 2 3 4) Outcome.NotFound is refused (number_of NotFound)
-    ∷ tallyAnswer (tally 1 2 3 4) Outcome.WrongPhase is refused (number_of WrongPhase)
-    ∷ tallyAnswer (tally 1 2 3 4) Outcome.Overflow is refused (number_of TallyOverflow)
+    tally_answer (tally 1 2 3 4) Outcome.Absorbed is accepted (tally 1 2 3 4)
+    ∷ tally_answer (tally 1 2 3 4) Outcome.InvalidRecord is refused (number_of InvalidRecord)
+    ∷ tally_answer (tally 1 2 3 4) Outcome.NotFound is refused (number_of NotFound)
+    ∷ tally_answer (tally 1 2 3 4) Outcome.WrongPhase is refused (number_of WrongPhase)
+    ∷ tally_answer (tally 1 2 3 4) Outcome.Overflow is refused (number_of TallyOverflow)
     ∷ []
 
-unfoldable pub countedAnswers : List (Case (Answer Totals))
-countedAnswers =
-    countedAnswer (CountedAnswer.Are (totals 1 2 3 4)) is accepted (totals 1 2 3 4)
-    ∷ countedAnswer CountedAnswer.InvalidRecord is refused (number_of InvalidRecord)
-    ∷ countedAnswer CountedAnswer.NotFound is refused (number_of NotFound)
-    ∷ countedAnswer CountedAnswer.WrongPhase is refused (number_of WrongPhase)
+unfoldable pub counted_answers : List (Case (Answer Totals))
+counted_answers =
+    counted_answer (CountedAnswer.Are (totals 1 2 3 4)) is accepted (totals 1 2 3 4)
+    ∷ counted_answer CountedAnswer.InvalidRecord is refused (number_of InvalidRecord)
+    ∷ counted_answer CountedAnswer.NotFound is refused (number_of NotFound)
+    ∷ counted_answer CountedAnswer.WrongPhase is refused (number_of WrongPhase)
     ∷ []
 
 pub record Checked : Type 0 where
-  pub of-limits : AsExpected limits
-  pub of-sums : AsExpected sums
-  pub of-counts : AsExpected counts
-  pub of-absorbed : AsExpected absorbed
-  pub of-after : AsExpected afterwards
-  pub of-answers : AsExpected answers
-  pub of-counted-answers : AsExpected countedAnswers
+  pub of_limits : AsExpected limits
+  pub of_sums : AsExpected sums
+  pub of_counts : AsExpected counts
+  pub of_absorbed : AsExpected absorbed
+  pub of_after : AsExpected afterwards
+  pub of_answers : AsExpected answers
+  pub of_counted_answers : AsExpected counted_answers

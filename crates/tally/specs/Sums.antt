@@ -11,16 +11,16 @@ use Rattle.tally.specs.declared.Sum.{Sum}
 use Rattle.tally.specs.declared.CountedAnswer.{CountedAnswer}
 use Rattle.tally.specs.declared.CountedAnswer.TheVariants.{Are as Brings, InvalidRecord, NotFound, WrongPhase}
 use Rattle.tally.specs.declared.Outcome.TheVariants.{Absorbed, Overflow}
-use Rattle.tally.specs.Tally.{hasRoomFor, added}
+use Rattle.tally.specs.Tally.{has_room_for, added}
 
 unfoldable pub summed : Tally → Totals → Sum
 summed t c =
-    cond (hasRoomFor t c) (record { tally = added t c; outcome = Absorbed }) (record { tally = t; outcome = Overflow })
+    cond (has_room_for t c) (record { tally = added t c; outcome = Absorbed }) (record { tally = t; outcome = Overflow })
 
 -- the totals refuse with 11 or 10
-unfoldable pub countedFor : Refusal → CountedAnswer
-countedFor cause = cond (eqb (number_of cause) 10) NotFound InvalidRecord
+unfoldable pub counted_for : Refusal → CountedAnswer
+counted_for cause = cond (eqb (number_of cause) 10) NotFound InvalidRecord
 
-unfoldable pub countedBy : Bool → TotalsAnswer → CountedAnswer
-countedBy closed (Are c) = cond closed (Brings c) WrongPhase
-countedBy closed (NoTotals cause) = countedFor cause
+unfoldable pub counted_by : Bool → TotalsAnswer → CountedAnswer
+counted_by closed (Are c) = cond closed (Brings c) WrongPhase
+counted_by closed (NoTotals cause) = counted_for cause

@@ -1,7 +1,7 @@
 // The day tally of one rule.
 ghost use Rattle.std.specs.Prelude.{◌≡◌, ◌+◌, leb};
-ghost use Rattle.tally.specs.Tally.{mostCounted, hasRoomFor, Counts, Absorbs};
-ghost use Rattle.tally.specs.Sums.{summed, countedFor, countedBy};
+ghost use Rattle.tally.specs.Tally.{most_counted, has_room_for, Counts, Absorbs};
+ghost use Rattle.tally.specs.Sums.{summed, counted_for, counted_by};
 
 use declare::{Refusal, number_of};
 use run::{Run, TotalsAnswer};
@@ -11,7 +11,7 @@ use standings::totals::Totals;
 pub const MOST_COUNTED: u64 = 4294967295;
 
 // How many cycles were absorbed, and the sums of their totals.
-#[derive(Drop)]
+#[derive(Clone, Copy)]
 pub struct Tally {
     pub cycles: u32,
     pub activations: u32,
@@ -20,7 +20,7 @@ pub struct Tally {
 }
 
 // Of absorbing: done, or why not.
-#[derive(Drop)]
+#[derive(Clone, Copy)]
 pub enum Outcome {
     Absorbed,
     InvalidRecord,
@@ -30,7 +30,7 @@ pub enum Outcome {
 }
 
 // The outcome, and the tally after it; after a refusal the same tally.
-#[derive(Drop)]
+#[derive(Clone, Copy)]
 pub struct Sum {
     pub tally: Tally,
     pub outcome: Outcome,
@@ -50,13 +50,13 @@ fn number(x: u16) -> u32
 
 // Whether a field can take this many more.
 fn has_room(x: u32, more: u32) -> bool
-    ensures { result ≡ leb (x + more) mostCounted }
+    ensures { result ≡ leb (x + more) most_counted }
 {
     wide(x) + wide(more) <= MOST_COUNTED
 }
 
 fn has_room_for(tally: Tally, totals: Totals) -> bool
-    ensures { result ≡ hasRoomFor tally totals }
+    ensures { result ≡ has_room_for tally totals }
 {
     has_room(tally.cycles, 1)
         & has_room(tally.activations, number(totals.activations))
@@ -88,7 +88,7 @@ fn with_totals(tally: Tally, totals: Totals) -> Sum
 
 // The totals of a rule of a closed run, or why there are none: 14 is no such cause. Public, so that
 // a struct of another crate that holds a Counted is covered.
-#[derive(Drop)]
+#[derive(Clone, Copy)]
 pub enum CountedAnswer {
     Are(Totals),
     InvalidRecord,
@@ -97,14 +97,14 @@ pub enum CountedAnswer {
 }
 
 // What a tally takes from a run. The field is private, so that only counted_of makes one.
-#[derive(Drop)]
+#[derive(Clone, Copy)]
 pub struct Counted {
     answer: CountedAnswer,
 }
 
 // The totals refuse an invalid record, or a rule that is not there.
 fn counted_for(cause: Refusal) -> CountedAnswer
-    ensures { result ≡ countedFor cause }
+    ensures { result ≡ counted_for cause }
 {
     if number_of(cause) == 10 {
         return CountedAnswer::NotFound;
@@ -113,7 +113,7 @@ fn counted_for(cause: Refusal) -> CountedAnswer
 }
 
 fn counted_by(closed: bool, answer: TotalsAnswer) -> CountedAnswer
-    ensures { result ≡ countedBy closed answer }
+    ensures { result ≡ counted_by closed answer }
 {
     match answer {
         TotalsAnswer::Are(totals) => {

@@ -5,23 +5,23 @@ use Prim.Native.Nat.{◌≤◌}
 use native.Mathlib.Omega.{arith}
 use lib.ListN.{length}
 use Rattle.declare.specs.declared.Table.{Table}
-use Rattle.declare.specs.Rules.{rulesOf, validTable}
+use Rattle.declare.specs.Rules.{rules_of, valid_table}
 use Rattle.run.specs.declared.Run.{Run}
-use Rattle.run.specs.Records.{eventsOf, validRun}
-use Rattle.run.proofs.Answered.{valid-cycle}
-use Rattle.cycle_text.specs.Written.{eventsText}
-use Rattle.rule_text.specs.Written.{rulesText}
-use Rattle.writer.specs.Writer.{rulesBytes, cycleBytes}
+use Rattle.run.specs.Records.{events_of, valid_run}
+use Rattle.run.proofs.Answered.{valid_cycle}
+use Rattle.cycle_text.specs.Written.{events_text}
+use Rattle.rule_text.specs.Written.{rules_text}
+use Rattle.writer.specs.Writer.{rules_bytes, cycle_bytes}
 use Rattle.cycle_text.proofs.Lengths as cycle
-use Rattle.rule_text.proofs.RoundTrips.{valid-rules}
+use Rattle.rule_text.proofs.RoundTrips.{valid_rules}
 use Rattle.rule_text.proofs.Lengths as rule
 
-pub rules-room : (t : Table) → validTable t ≡ true → length (rulesText (rulesOf t)) ≤ rulesBytes
-rules-room t v =
-    let w = valid-rules t v in
-    omega (arith, w.most, (rule.written-bytes).most (rulesOf t) w)
+pub rules_room : (t : Table) → valid_table t ≡ true → length (rules_text (rules_of t)) ≤ rules_bytes
+rules_room t v =
+    let w = valid_rules t v in
+    omega (arith, w.most, (rule.written_bytes).most (rules_of t) w)
 
-pub cycle-room : (r : Run) → validRun r ≡ true → length (eventsText (eventsOf r)) ≤ cycleBytes
-cycle-room r v =
-    let w = valid-cycle r v in
-    omega (arith, w.most, (cycle.written-bytes).most (eventsOf r) w)
+pub cycle_room : (r : Run) → valid_run r ≡ true → length (events_text (events_of r)) ≤ cycle_bytes
+cycle_room r v =
+    let w = valid_cycle r v in
+    omega (arith, w.most, (cycle.written_bytes).most (events_of r) w)

@@ -1,8 +1,8 @@
 // Comparisons.
 ghost use Rattle.std.specs.Prelude.{◌≡◌};
 ghost use Rattle.declare.specs.declared.Reference.TheVariants.{Activation};
-ghost use Rattle.rule_text.specs.Comparisons.{operatorByte};
-ghost use Rattle.rule_text.specs.Written.{referenceText, comparisonText};
+ghost use Rattle.rule_text.specs.Comparisons.{operator_byte};
+ghost use Rattle.rule_text.specs.Written.{reference_text, comparison_text};
 ghost use Rattle.buffer.specs.Puts.{Puts};
 
 use buffer::numbers::{put_integer, put_number};
@@ -10,7 +10,7 @@ use buffer::put::put_byte;
 use declare::{Comparison, Operator, Reference};
 
 fn operator_byte(operator: Operator) -> u8
-    ensures { result ≡ operatorByte operator }
+    ensures { result ≡ operator_byte operator }
 {
     match operator {
         Operator::Equal => b'=',
@@ -24,7 +24,7 @@ fn operator_byte(operator: Operator) -> u8
 
 // Reading g of the activation plus k.
 fn put_activation(out: &mut [u8], at: usize, g: u8, k: i32) -> usize
-    ensures { Puts (referenceText (Activation g k)) out.old at out.new result }
+    ensures { Puts (reference_text (Activation g k)) out.old at out.new result }
 {
     let at = put_byte(out, at, b'@');
     let at = put_number(out, at, g as u32);
@@ -33,7 +33,7 @@ fn put_activation(out: &mut [u8], at: usize, g: u8, k: i32) -> usize
 }
 
 fn put_reference(out: &mut [u8], at: usize, reference: Reference) -> usize
-    ensures { Puts (referenceText reference) out.old at out.new result }
+    ensures { Puts (reference_text reference) out.old at out.new result }
 {
     match reference {
         Reference::Constant(k) => put_integer(out, at, k),
@@ -42,7 +42,7 @@ fn put_reference(out: &mut [u8], at: usize, reference: Reference) -> usize
 }
 
 pub fn put_comparison(out: &mut [u8], at: usize, c: Comparison) -> usize
-    ensures { Puts (comparisonText c) out.old at out.new result }
+    ensures { Puts (comparison_text c) out.old at out.new result }
 {
     let operator = c.operator;
     let reference = c.reference;

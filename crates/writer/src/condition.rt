@@ -1,7 +1,7 @@
 // Conditions: comparisons with commas between them, or `-`.
 ghost use Rattle.std.specs.Prelude.{[], ◌∷◌, ◌++◌};
 ghost use Rattle.rule_text.specs.Conditions.{comma};
-ghost use Rattle.rule_text.specs.Written.{comparisonText, conditionText};
+ghost use Rattle.rule_text.specs.Written.{comparison_text, condition_text};
 ghost use Rattle.buffer.specs.Puts.{Puts};
 
 use crate::comparison::put_comparison;
@@ -10,14 +10,14 @@ use declare::{Comparison, Condition};
 
 // A comma and a comparison.
 fn put_next(out: &mut [u8], at: usize, c: Comparison) -> usize
-    ensures { Puts (comma ∷ comparisonText c) out.old at out.new result }
+    ensures { Puts (comma ∷ comparison_text c) out.old at out.new result }
 {
     let at = put_byte(out, at, b',');
     put_comparison(out, at, c)
 }
 
 fn put_condition(out: &mut [u8], at: usize, c: Condition) -> usize
-    ensures { Puts (conditionText c) out.old at out.new result }
+    ensures { Puts (condition_text c) out.old at out.new result }
 {
     let count = c.count;
     if count < 1 {
@@ -40,7 +40,7 @@ fn put_condition(out: &mut [u8], at: usize, c: Condition) -> usize
 
 // A condition, and the byte that ends its field.
 pub fn put_condition_field(out: &mut [u8], at: usize, c: Condition, end: u8) -> usize
-    ensures { Puts (conditionText c ++ (end ∷ [])) out.old at out.new result }
+    ensures { Puts (condition_text c ++ (end ∷ [])) out.old at out.new result }
 {
     let at = put_condition(out, at, c);
     put_byte(out, at, end)

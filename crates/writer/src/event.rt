@@ -1,8 +1,8 @@
 // Events as the lines of a cycle text.
 ghost use Rattle.std.specs.Prelude.{◌≤◌, take};
-ghost use Rattle.declare.specs.Limits.{mostEvents};
-ghost use Rattle.line.specs.Texts.{writtenLine};
-ghost use Rattle.cycle_text.specs.Written.{eventFields, eventsText};
+ghost use Rattle.declare.specs.Limits.{most_events};
+ghost use Rattle.line.specs.Texts.{written_line};
+ghost use Rattle.cycle_text.specs.Written.{event_fields, events_text};
 ghost use Rattle.buffer.specs.Puts.{Puts};
 
 use crate::field::{put_byte_field, put_reading_field};
@@ -11,7 +11,7 @@ use declare::{EVENTS, Event};
 use line::{LINE_FEED, TAB};
 
 fn put_event(out: &mut [u8], at: usize, e: Event) -> usize
-    ensures { Puts (writtenLine eventFields e) out.old at out.new result }
+    ensures { Puts (written_line event_fields e) out.old at out.new result }
 {
     let reading1 = e.reading1;
     let reading2 = e.reading2;
@@ -27,8 +27,8 @@ fn put_event(out: &mut [u8], at: usize, e: Event) -> usize
 
 // The lines of the first `count` events, from the buffer's front on.
 pub fn put_events(out: &mut [u8], count: usize, events: [Event; EVENTS]) -> usize
-    requires { count ≤ mostEvents }
-    ensures { Puts (eventsText (take count events)) out.old 0 out.new result }
+    requires { count ≤ most_events }
+    ensures { Puts (events_text (take count events)) out.old 0 out.new result }
 {
     let mut at = 0;
     for p in 0..count {

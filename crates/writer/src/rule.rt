@@ -1,8 +1,8 @@
 // Rules as the lines of a rules text.
 ghost use Rattle.std.specs.Prelude.{[], ◌∷◌, ◌++◌, ◌≤◌, take};
-ghost use Rattle.declare.specs.Limits.{mostRules};
-ghost use Rattle.line.specs.Texts.{writtenLine};
-ghost use Rattle.rule_text.specs.Written.{endText, ruleFields, rulesText};
+ghost use Rattle.declare.specs.Limits.{most_rules};
+ghost use Rattle.line.specs.Texts.{written_line};
+ghost use Rattle.rule_text.specs.Written.{end_text, rule_fields, rules_text};
 ghost use Rattle.buffer.specs.Puts.{Puts};
 
 use crate::condition::put_condition_field;
@@ -13,7 +13,7 @@ use declare::{End, RULES, Rule};
 use line::{LINE_FEED, TAB};
 
 fn put_end(out: &mut [u8], at: usize, until: End) -> usize
-    ensures { Puts (endText until) out.old at out.new result }
+    ensures { Puts (end_text until) out.old at out.new result }
 {
     match until {
         End::Never => put_byte(out, at, b'-'),
@@ -23,14 +23,14 @@ fn put_end(out: &mut [u8], at: usize, until: End) -> usize
 
 // The end of a window, and the byte that ends its field.
 fn put_end_field(out: &mut [u8], at: usize, until: End, end: u8) -> usize
-    ensures { Puts (endText until ++ (end ∷ [])) out.old at out.new result }
+    ensures { Puts (end_text until ++ (end ∷ [])) out.old at out.new result }
 {
     let at = put_end(out, at, until);
     put_byte(out, at, end)
 }
 
 fn put_rule(out: &mut [u8], at: usize, rule: Rule) -> usize
-    ensures { Puts (writtenLine ruleFields rule) out.old at out.new result }
+    ensures { Puts (written_line rule_fields rule) out.old at out.new result }
 {
     let window = rule.window;
     let until = window.until;
@@ -45,8 +45,8 @@ fn put_rule(out: &mut [u8], at: usize, rule: Rule) -> usize
 
 // The lines of the first `count` rules, from the buffer's front on.
 pub fn put_rules(out: &mut [u8], count: usize, rules: [Rule; RULES]) -> usize
-    requires { count ≤ mostRules }
-    ensures { Puts (rulesText (take count rules)) out.old 0 out.new result }
+    requires { count ≤ most_rules }
+    ensures { Puts (rules_text (take count rules)) out.old 0 out.new result }
 {
     let mut at = 0;
     for k in 0..count {

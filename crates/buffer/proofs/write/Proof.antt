@@ -2,7 +2,7 @@
 use Prim.Native.Nat.{◌≤◌}
 use native.Mathlib.Omega.{arith}
 use lib.ListN.{length}
-use Rattle.buffer.proofs.Puts.{puts-front}
+use Rattle.buffer.proofs.Puts.{puts_front}
 use Rattle.buffer.proofs.Writes.{too_short, has_room}
 use borrow.Author.Rules.{rules}
 use Rattle.buffer.proofs.write.Statement.{statement}
@@ -22,7 +22,7 @@ returns-2 c =
     let k = c.before.before in
     let a = k.before.before.before.before.before.args in
     let room : length a.text.now ≤ length a.out.now = omega arith in
-    let p = puts-front room k.put-bytes.ensures in
+    let p = puts_front room k.put-bytes.ensures in
     has_room _ _ _ _ room p.1 p.0
 
 pub write_spec : {M : Type 1} → statement M

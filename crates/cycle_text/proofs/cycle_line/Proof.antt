@@ -3,10 +3,10 @@ use mathlib.Core.Path.{sym, ◌∙◌, ap}
 use Prim.Native.Nat.{ℕ, ◌+◌}
 use native.Mathlib.Omega.{arith}
 use Rattle.declare.specs.Refusals.{number_of}
-use Rattle.line.proofs.Lines.{end_is, end-within, no-line-end, other-count, fields-of}
-use Rattle.cycle_text.specs.Cycle.{eventOf}
-use Rattle.cycle_text.specs.Reads.{eventRead}
-use Rattle.cycle_text.proofs.Lines.{field-count}
+use Rattle.line.proofs.Lines.{end_is, end_within, no_line_end, other_count, fields_of_lem}
+use Rattle.cycle_text.specs.Cycle.{event_of}
+use Rattle.cycle_text.specs.Reads.{event_read}
+use Rattle.cycle_text.proofs.Lines.{field_count}
 use borrow.Author.Rules.{rules}
 use Rattle.cycle_text.proofs.cycle_line.Statement.{statement}
 use Rattle.cycle_text.proofs.cycle_line.Tie as tie
@@ -15,19 +15,19 @@ scan-line-requires : tie.Need-scan-line-requires
 scan-line-requires c κs = search rules
 
 add-next : tie.Need-overflow-add-next
-add-next c = omega (arith, end-within _ _ c.scan-line.ensures, c.before.before.well-formed)
+add-next c = omega (arith, end_within _ _ c.scan-line.ensures, c.before.before.well-formed)
 
 returns : tie.Need-returns
-unfolding eventRead number_of
+unfolding event_read number_of
 returns c =
     let scan = c.before.scan-line.ensures in
-    (sym (no-line-end _ _ scan eventOf c.if1.true), ap (λ (n : ℕ). n + 1) (end_is _ _ scan))
+    (sym (no_line_end _ _ scan event_of c.if1.true), ap (λ (n : ℕ). n + 1) (end_is _ _ scan))
 
 returns-2 : tie.Need-returns-2
-unfolding eventRead number_of
+unfolding event_read number_of
 returns-2 c =
     let scan = c.before.before.before.scan-line.ensures in
-    (sym (other-count _ _ scan eventOf c.before.before.if1.false 5 field-count c.if2.true), ap (λ (n : ℕ). n + 1) (end_is _ _ scan))
+    (sym (other_count _ _ scan event_of c.before.before.if1.false 5 field_count c.if2.true), ap (λ (n : ℕ). n + 1) (end_is _ _ scan))
 
 read-event-requires : tie.Need-read-event-requires
 read-event-requires c κs = search rules
@@ -35,7 +35,7 @@ read-event-requires c κs = search rules
 returns-3 : tie.Need-returns-3
 returns-3 c =
     let scan = c.before.before.before.before.scan-line.ensures in
-    (c.read-event.ensures ∙ sym (fields-of _ _ scan eventOf c.before.before.before.if1.false 5 c.before.if2.false), ap (λ (n : ℕ). n + 1) (end_is _ _ scan))
+    (c.read-event.ensures ∙ sym (fields_of_lem _ _ scan event_of c.before.before.before.if1.false 5 c.before.if2.false), ap (λ (n : ℕ). n + 1) (end_is _ _ scan))
 
 pub cycle-line-spec : {M : Type 1} → statement M
 cycle-line-spec =

@@ -3,15 +3,15 @@
 use mathlib.Core.Path.{◌≡◌, sym, ◌∙◌, ap}
 use Prim.Native.Nat.{ℕ}
 use native.Mathlib.Omega.{arith}
-use Rattle.declare.specs.Limits.{lastActivity}
+use Rattle.declare.specs.Limits.{last_activity}
 use Rattle.declare.specs.Answers.{accepted, ◌>>=◌}
-use Rattle.line.specs.Fields.{tab, before, fieldsFrom}
-use Rattle.line.specs.Values.{naturalAnswer, numberField}
+use Rattle.line.specs.Fields.{tab, before, fields_from}
+use Rattle.line.specs.Values.{natural_answer, number_field}
 use Rattle.line.proofs.Values.{number_read}
-use Rattle.line.proofs.Lines.{field-passed}
-use Rattle.cycle_text.specs.Cycle.{eventOf}
-use Rattle.cycle_text.specs.Reads.{eventRead, eventWith}
-use Rattle.cycle_text.proofs.Lines.{fromActivity, by-fields}
+use Rattle.line.proofs.Lines.{field_passed}
+use Rattle.cycle_text.specs.Cycle.{event_of}
+use Rattle.cycle_text.specs.Reads.{event_read, event_with}
+use Rattle.cycle_text.proofs.Lines.{from_activity, by_fields}
 use borrow.Author.Rules.{rules}
 use Rattle.cycle_text.proofs.read_event.Statement.{statement}
 use Rattle.cycle_text.proofs.read_event.Tie as tie
@@ -22,11 +22,11 @@ first c = c.before.before.before.before
 abbrev time : tie.After-rest-of → ℕ
 time c = c.before.before.answer.given.0.0
 
-after-time : (c : tie.After-rest-of) → eventOf (fieldsFrom 5 (first c).before.before.args.part.now) ≡ fromActivity c.rest_of.result.now (time c)
-unfolding naturalAnswer
-after-time c =
-    by-fields _
-    ∙ field-passed fromActivity _ _ (sym (first c).number-field.ensures.0 ∙ ap naturalAnswer c.before.before.answer.given.1) (first c).number-field.ensures.1 c.rest_of.ensures
+after_time : (c : tie.After-rest-of) → event_of (fields_from 5 (first c).before.before.args.part.now) ≡ from_activity c.rest_of.result.now (time c)
+unfolding natural_answer
+after_time c =
+    by_fields _
+    ∙ field_passed from_activity _ _ (sym (first c).number-field.ensures.0 ∙ ap natural_answer c.before.before.answer.given.1) (first c).number-field.ensures.1 c.rest_of.ensures
 
 number-field-requires : tie.Need-number-field-requires
 number-field-requires c κs = search rules
@@ -41,8 +41,8 @@ refusal-of-requires : tie.Need-refusal-of-requires
 refusal-of-requires c κs = search rules
 
 returns : tie.Need-returns
-unfolding eventRead naturalAnswer ◌>>=◌
-returns c = let f = c.before.before.before.before in sym (by-fields _ ∙ rw (← f.number-field.ensures.0, ap naturalAnswer c.before.before.answer2.given.1, ← c.refusal-of.ensures))
+unfolding event_read natural_answer ◌>>=◌
+returns c = let f = c.before.before.before.before in sym (by_fields _ ∙ rw (← f.number-field.ensures.0, ap natural_answer c.before.before.answer2.given.1, ← c.refusal-of.ensures))
 
 rest-of-requires : tie.Need-rest-of-requires
 rest-of-requires c κs = search rules
@@ -63,29 +63,29 @@ refusal-of-requires-2 : tie.Need-refusal-of-requires-2
 refusal-of-requires-2 c κs = search rules
 
 returns-2 : tie.Need-returns-2
-unfolding eventRead naturalAnswer ◌>>=◌
-returns-2 c = let f = c.before.before.before.before in sym (after-time f.before ∙ rw (← f.number-field2.ensures.0, ap naturalAnswer c.before.before.answer4.given.1, ← c.refusal-of2.ensures))
+unfolding event_read natural_answer ◌>>=◌
+returns-2 c = let f = c.before.before.before.before in sym (after_time f.before ∙ rw (← f.number-field2.ensures.0, ap natural_answer c.before.before.answer4.given.1, ← c.refusal-of2.ensures))
 
 rest-of-requires-2 : tie.Need-rest-of-requires-2
 rest-of-requires-2 c κs = search rules
 
 -- an activity is a byte
-activity-is : (c : tie.After-rest-of2) → numberField 1 lastActivity (before tab c.before.before.before.before.before.rest_of.result.now) ≡ accepted c.before.before.answer3.given.0.0
-unfolding naturalAnswer
-activity-is c = sym c.before.before.before.before.number-field2.ensures.0 ∙ ap naturalAnswer c.before.before.answer3.given.1
+activity_is : (c : tie.After-rest-of2) → number_field 1 last_activity (before tab c.before.before.before.before.before.rest_of.result.now) ≡ accepted c.before.before.answer3.given.0.0
+unfolding natural_answer
+activity_is c = sym c.before.before.before.before.number-field2.ensures.0 ∙ ap natural_answer c.before.before.answer3.given.1
 
 cast-readings : tie.Need-overflow-cast-readings
-cast-readings c = omega (arith, (number_read 1 lastActivity _ _ (activity-is c)).high)
+cast-readings c = omega (arith, (number_read 1 last_activity _ _ (activity_is c)).high)
 
 readings-requires : tie.Need-readings-requires
 readings-requires c κs = search rules
 
 returns-3 : tie.Need-returns-3
-unfolding eventRead naturalAnswer ◌>>=◌
+unfolding event_read natural_answer ◌>>=◌
 returns-3 c =
     let f = c.before.before.before.before.before in
     c.readings.ensures
-    ∙ sym (after-time f.before ∙ field-passed (λ s a. eventWith (time f.before) a (fieldsFrom 3 s)) _ _ (sym f.number-field2.ensures.0 ∙ ap naturalAnswer c.before.before.before.answer3.given.1) f.number-field2.ensures.1 c.before.rest-of2.ensures)
+    ∙ sym (after_time f.before ∙ field_passed (λ s a. event_with (time f.before) a (fields_from 3 s)) _ _ (sym f.number-field2.ensures.0 ∙ ap natural_answer c.before.before.before.answer3.given.1) f.number-field2.ensures.1 c.before.rest-of2.ensures)
 
 pub read-event-spec : {M : Type 1} → statement M
 read-event-spec =

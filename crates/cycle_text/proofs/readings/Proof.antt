@@ -3,12 +3,12 @@
 use mathlib.Core.Path.{◌≡◌, sym, ◌∙◌, ap}
 use Prim.Native.Nat.{ℕ}
 use Rattle.declare.specs.Answers.{Answer, ◌>>=◌}
-use Rattle.line.specs.Fields.{fieldsFrom}
-use Rattle.line.specs.Values.{readingRead}
-use Rattle.line.proofs.Lines.{field-passed}
+use Rattle.line.specs.Fields.{fields_from}
+use Rattle.line.specs.Values.{reading_read}
+use Rattle.line.proofs.Lines.{field_passed}
 use Rattle.cycle_text.specs.Types.{Reading, Event}
-use Rattle.cycle_text.specs.Reads.{eventRead, eventWith}
-use Rattle.cycle_text.proofs.Lines.{fromReading2, fromReading3, fromReading4, by-readings}
+use Rattle.cycle_text.specs.Reads.{event_read, event_with}
+use Rattle.cycle_text.proofs.Lines.{from_reading2, from_reading3, from_reading4, by_readings}
 use borrow.Author.Rules.{rules}
 use Rattle.cycle_text.proofs.readings.Statement.{statement}
 use Rattle.cycle_text.proofs.readings.Tie as tie
@@ -20,7 +20,7 @@ abbrev activity : tie.After-reading-field → ℕ
 activity c = c.before.before.args.activity
 
 abbrev whole : tie.After-reading-field → Answer Event
-whole c = eventWith (time c) (activity c) (fieldsFrom 3 c.before.before.args.part.now)
+whole c = event_with (time c) (activity c) (fields_from 3 c.before.before.args.part.now)
 
 -- ---- the first reading, and the part after it
 
@@ -30,11 +30,11 @@ field1 c = c.before.before.before.before
 abbrev reading1 : tie.After-rest-of → Reading
 reading1 c = c.before.before.answer.given.0.0
 
-after1 : (c : tie.After-rest-of) → whole (field1 c) ≡ fromReading2 (time (field1 c)) (activity (field1 c)) c.rest_of.result.now (reading1 c)
-unfolding readingRead
+after1 : (c : tie.After-rest-of) → whole (field1 c) ≡ from_reading2 (time (field1 c)) (activity (field1 c)) c.rest_of.result.now (reading1 c)
+unfolding reading_read
 after1 c =
-    by-readings _ _ _
-    ∙ field-passed (fromReading2 (time (field1 c)) (activity (field1 c))) _ _ (sym (field1 c).reading-field.ensures.0 ∙ ap readingRead c.before.before.answer.given.1) (field1 c).reading-field.ensures.1 c.rest_of.ensures
+    by_readings _ _ _
+    ∙ field_passed (from_reading2 (time (field1 c)) (activity (field1 c))) _ _ (sym (field1 c).reading-field.ensures.0 ∙ ap reading_read c.before.before.answer.given.1) (field1 c).reading-field.ensures.1 c.rest_of.ensures
 
 -- ---- the second
 
@@ -44,22 +44,22 @@ field2 c = c.before.before.before.before
 abbrev reading2 : tie.After-rest-of2 → Reading
 reading2 c = c.before.before.answer3.given.0.0
 
-after2 : (c : tie.After-rest-of2) → whole (field1 (field2 c).before) ≡ fromReading3 (time (field1 (field2 c).before)) (activity (field1 (field2 c).before)) c.rest-of2.result.now (reading1 (field2 c).before) (reading2 c)
-unfolding readingRead
+after2 : (c : tie.After-rest-of2) → whole (field1 (field2 c).before) ≡ from_reading3 (time (field1 (field2 c).before)) (activity (field1 (field2 c).before)) c.rest-of2.result.now (reading1 (field2 c).before) (reading2 c)
+unfolding reading_read
 after2 c =
     after1 (field2 c).before
-    ∙ field-passed (λ s. fromReading3 (time (field1 (field2 c).before)) (activity (field1 (field2 c).before)) s (reading1 (field2 c).before)) _ _ (sym (field2 c).reading-field2.ensures.0 ∙ ap readingRead c.before.before.answer3.given.1) (field2 c).reading-field2.ensures.1 c.rest-of2.ensures
+    ∙ field_passed (λ s. from_reading3 (time (field1 (field2 c).before)) (activity (field1 (field2 c).before)) s (reading1 (field2 c).before)) _ _ (sym (field2 c).reading-field2.ensures.0 ∙ ap reading_read c.before.before.answer3.given.1) (field2 c).reading-field2.ensures.1 c.rest-of2.ensures
 
 -- ---- the third
 
 abbrev field3 : tie.After-rest-of3 → tie.After-reading-field3
 field3 c = c.before.before.before.before
 
-after3 : (c : tie.After-rest-of3) → whole (field1 (field2 (field3 c).before).before) ≡ fromReading4 (time (field1 (field2 (field3 c).before).before)) (activity (field1 (field2 (field3 c).before).before)) c.rest-of3.result.now (reading1 (field2 (field3 c).before).before) (reading2 (field3 c).before) c.before.before.answer5.given.0.0
-unfolding readingRead
+after3 : (c : tie.After-rest-of3) → whole (field1 (field2 (field3 c).before).before) ≡ from_reading4 (time (field1 (field2 (field3 c).before).before)) (activity (field1 (field2 (field3 c).before).before)) c.rest-of3.result.now (reading1 (field2 (field3 c).before).before) (reading2 (field3 c).before) c.before.before.answer5.given.0.0
+unfolding reading_read
 after3 c =
     after2 (field3 c).before
-    ∙ field-passed (λ s. fromReading4 (time (field1 (field2 (field3 c).before).before)) (activity (field1 (field2 (field3 c).before).before)) s (reading1 (field2 (field3 c).before).before) (reading2 (field3 c).before)) _ _ (sym (field3 c).reading-field3.ensures.0 ∙ ap readingRead c.before.before.answer5.given.1) (field3 c).reading-field3.ensures.1 c.rest-of3.ensures
+    ∙ field_passed (λ s. from_reading4 (time (field1 (field2 (field3 c).before).before)) (activity (field1 (field2 (field3 c).before).before)) s (reading1 (field2 (field3 c).before).before) (reading2 (field3 c).before)) _ _ (sym (field3 c).reading-field3.ensures.0 ∙ ap reading_read c.before.before.answer5.given.1) (field3 c).reading-field3.ensures.1 c.rest-of3.ensures
 
 reading-field-requires : tie.Need-reading-field-requires
 reading-field-requires c κs = search rules
@@ -74,8 +74,8 @@ refusal-of-requires : tie.Need-refusal-of-requires
 refusal-of-requires c κs = search rules
 
 returns : tie.Need-returns
-unfolding eventRead readingRead ◌>>=◌
-returns c = let f = c.before.before.before.before in sym (by-readings _ _ _ ∙ rw (← f.reading-field.ensures.0, ap readingRead c.before.before.answer2.given.1, ← c.refusal-of.ensures))
+unfolding event_read reading_read ◌>>=◌
+returns c = let f = c.before.before.before.before in sym (by_readings _ _ _ ∙ rw (← f.reading-field.ensures.0, ap reading_read c.before.before.answer2.given.1, ← c.refusal-of.ensures))
 
 rest-of-requires : tie.Need-rest-of-requires
 rest-of-requires c κs = search rules
@@ -93,8 +93,8 @@ refusal-of-requires-2 : tie.Need-refusal-of-requires-2
 refusal-of-requires-2 c κs = search rules
 
 returns-2 : tie.Need-returns-2
-unfolding eventRead readingRead ◌>>=◌
-returns-2 c = let f = c.before.before.before.before in sym (after1 f.before ∙ rw (← f.reading-field2.ensures.0, ap readingRead c.before.before.answer4.given.1, ← c.refusal-of2.ensures))
+unfolding event_read reading_read ◌>>=◌
+returns-2 c = let f = c.before.before.before.before in sym (after1 f.before ∙ rw (← f.reading-field2.ensures.0, ap reading_read c.before.before.answer4.given.1, ← c.refusal-of2.ensures))
 
 rest-of-requires-2 : tie.Need-rest-of-requires-2
 rest-of-requires-2 c κs = search rules
@@ -112,8 +112,8 @@ refusal-of-requires-3 : tie.Need-refusal-of-requires-3
 refusal-of-requires-3 c κs = search rules
 
 returns-3 : tie.Need-returns-3
-unfolding eventRead readingRead ◌>>=◌
-returns-3 c = let f = c.before.before.before.before in sym (after2 f.before ∙ rw (← f.reading-field3.ensures.0, ap readingRead c.before.before.answer6.given.1, ← c.refusal-of3.ensures))
+unfolding event_read reading_read ◌>>=◌
+returns-3 c = let f = c.before.before.before.before in sym (after2 f.before ∙ rw (← f.reading-field3.ensures.0, ap reading_read c.before.before.answer6.given.1, ← c.refusal-of3.ensures))
 
 rest-of-requires-3 : tie.Need-rest-of-requires-3
 rest-of-requires-3 c κs = search rules
@@ -131,12 +131,12 @@ refusal-of-requires-4 : tie.Need-refusal-of-requires-4
 refusal-of-requires-4 c κs = search rules
 
 returns-4 : tie.Need-returns-4
-unfolding eventRead readingRead ◌>>=◌
-returns-4 c = let f = c.before.before.before in sym (after3 f.before ∙ rw (← f.reading-field4.ensures.0, ap readingRead c.before.answer7.given.1))
+unfolding event_read reading_read ◌>>=◌
+returns-4 c = let f = c.before.before.before in sym (after3 f.before ∙ rw (← f.reading-field4.ensures.0, ap reading_read c.before.answer7.given.1))
 
 returns-5 : tie.Need-returns-5
-unfolding eventRead readingRead ◌>>=◌
-returns-5 c = let f = c.before.before.before.before in sym (after3 f.before ∙ rw (← f.reading-field4.ensures.0, ap readingRead c.before.before.answer8.given.1, ← c.refusal-of4.ensures))
+unfolding event_read reading_read ◌>>=◌
+returns-5 c = let f = c.before.before.before.before in sym (after3 f.before ∙ rw (← f.reading-field4.ensures.0, ap reading_read c.before.before.answer8.given.1, ← c.refusal-of4.ensures))
 
 pub readings-spec : {M : Type 1} → statement M
 readings-spec =

@@ -3,21 +3,21 @@ use mathlib.Core.Path.{ap}
 use lib.ListN.{replicate}
 use Prim.Native.Nat.{ℕ}
 use Rattle.cycle_text.specs.Types.{Event, Refusal, Refused, CycleRead}
-use Rattle.declare.specs.Limits.{mostEvents}
+use Rattle.declare.specs.Limits.{most_events}
 use Rattle.declare.specs.Slots.{padded}
-use Rattle.cycle_text.specs.Reads.{refusedRead}
+use Rattle.cycle_text.specs.Reads.{refused_read}
 use borrow.Author.Rules.{rules}
 use Rattle.cycle_text.proofs.refused.Statement.{statement}
 use Rattle.cycle_text.proofs.refused.Tie as tie
 
 abbrev read_of : Refusal → ℕ → Event → CycleRead
-read_of cause line slot = record { outcome = Refused cause line; count = 0; events = replicate mostEvents slot }
+read_of cause line slot = record { outcome = Refused cause line; count = 0; events = replicate most_events slot }
 
 empty-slot-requires : tie.Need-empty-slot-requires
 empty-slot-requires c κs = search rules
 
 returns : tie.Need-returns
-unfolding refusedRead padded
+unfolding refused_read padded
 returns c = ap (λ (slot : Event). read_of c.before.args.cause c.before.args.line slot) c.empty-slot.ensures
 
 pub refused-spec : {M : Type 1} → statement M

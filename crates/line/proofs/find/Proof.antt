@@ -5,7 +5,7 @@ use mathlib.Core.Path.{◌≡◌}
 use native.Mathlib.Omega.{arith}
 use lib.ListN.{length, drop, drop_of_length-le}
 use Rattle.line.specs.Fields.{index_of}
-use Rattle.line.proofs.Fields.{index-here, index-next}
+use Rattle.line.proofs.Fields.{index_here, index_next}
 use Rattle.line.proofs.find.Statement.{statement}
 use Rattle.line.proofs.find.Tie as tie
 
@@ -24,7 +24,7 @@ shared-slice-read-if1 c = omega arith
 returns : tie.Need-returns invariant-loop decreases-loop
 returns c =
     let a = c.before.before.before.before.args in
-    omega (arith, index-here a.byte a.s.now c.before.before.before.loop.i c.before.before.loop-test.true c.if1.true)
+    omega (arith, index_here a.byte a.s.now c.before.before.before.loop.i c.before.before.loop-test.true c.if1.true)
 
 add-i : tie.Need-overflow-add-i invariant-loop decreases-loop
 add-i c = omega arith
@@ -35,7 +35,7 @@ loop-less c = omega arith
 loop-again : tie.Need-loop-preserved invariant-loop decreases-loop
 loop-again c =
     let a = c.before.before.before.before.args in
-    omega (arith, index-next a.byte a.s.now c.before.before.before.loop.i c.before.before.loop-test.true c.if1.false)
+    omega (arith, index_next a.byte a.s.now c.before.before.before.loop.i c.before.before.loop-test.true c.if1.false)
 
 returns-2 : tie.Need-returns-2 invariant-loop decreases-loop
 unfolding index_of

@@ -12,17 +12,17 @@ use borrow.Author.Rules.{rules}
 use Rattle.line.proofs.is_dash.Statement.{statement}
 use Rattle.line.proofs.is_dash.Tie as tie
 
-dash-is : (field : List ℕ) → (eqb (length field) 1 && eqb (get_or field 0 0) 45) ≡ dash field
+dash_is : (field : List ℕ) → (eqb (length field) 1 && eqb (get_or field 0 0) 45) ≡ dash field
 unfolding dash none
-dash-is [] = refl
-dash-is (b ∷ []) = sym (and-true (eqb b 45))
-dash-is (b ∷ x ∷ field) = rw (ne_eqb (suc (suc (length field))) 1 (λ e. omega arith)) (sym (and-false (eqb b 45)))
+dash_is [] = refl
+dash_is (b ∷ []) = sym (and-true (eqb b 45))
+dash_is (b ∷ x ∷ field) = rw (ne_eqb (suc (suc (length field))) 1 (λ e. omega arith)) (sym (and-false (eqb b 45)))
 
 byte-at-requires : tie.Need-byte-at-requires
 byte-at-requires c κs = search rules
 
 returns : tie.Need-returns
-returns c = rw c.byte_at.ensures (dash-is c.before.before.args.field.now)
+returns c = rw c.byte_at.ensures (dash_is c.before.before.args.field.now)
 
 pub is-dash-spec : {M : Type 1} → statement M
 is-dash-spec = tie.close (tie.spec byte-at-requires returns)

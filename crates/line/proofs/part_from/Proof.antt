@@ -2,7 +2,7 @@
 use mathlib.Core.Path.{sym}
 use native.Mathlib.Nat.{le_of_lt}
 use lib.ListN.{drop_of_length-le}
-use Rattle.line.proofs.Fields.{part-rest}
+use Rattle.line.proofs.Fields.{part_rest}
 use borrow.Author.Rules.{rules}
 use Rattle.line.proofs.part_from.Statement.{statement}
 use Rattle.line.proofs.part_from.Tie as tie
@@ -20,7 +20,7 @@ slice-aggregate-result : tie.Need-slice-aggregate-result
 slice-aggregate-result c = search rules
 
 returns : tie.Need-returns
-returns c = part-rest c.before.before.args.s.now c.before.before.args.i
+returns c = part_rest c.before.before.args.s.now c.before.before.args.i
 
 returns-2 : tie.Need-returns-2
 returns-2 c = sym (drop_of_length-le _ (le_of_lt c.before.if1.false))

@@ -3,8 +3,8 @@ use mathlib.Core.Path.{◌∙◌, ap}
 use Rattle.number.proofs.Answers.{answers}
 use Rattle.line.specs.Types.{FieldScan}
 use Rattle.line.specs.Fields.{before}
-use Rattle.line.specs.Values.{readingField}
-use Rattle.line.specs.Scans.{fieldScan, readingBy}
+use Rattle.line.specs.Values.{reading_field}
+use Rattle.line.specs.Scans.{field_scan, reading_by}
 use borrow.Author.Rules.{rules}
 use Rattle.line.proofs.reading_field.Statement.{statement}
 use Rattle.line.proofs.reading_field.Tie as tie
@@ -16,7 +16,7 @@ reading-answer-requires : tie.Need-reading-answer-requires
 reading-answer-requires c κs = search rules
 
 returns : tie.Need-returns
-unfolding readingField readingBy fieldScan
+unfolding reading_field reading_by field_scan
 returns c =
     let a = c.before.before.before.args in
     let f = answers (before a.separator a.part.now) in (

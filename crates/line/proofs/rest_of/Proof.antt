@@ -3,7 +3,7 @@ use mathlib.Core.Path.{sym}
 use Prim.Native.Nat.{◌+◌, ◌≤◌}
 use native.Mathlib.Omega.{arith}
 use lib.ListN.{length, drop_of_length-le}
-use Rattle.line.proofs.Fields.{part-rest}
+use Rattle.line.proofs.Fields.{part_rest}
 use borrow.Author.Rules.{rules}
 use Rattle.line.proofs.rest_of.Statement.{statement}
 use Rattle.line.proofs.rest_of.Tie as tie
@@ -24,7 +24,7 @@ slice-aggregate-result : tie.Need-slice-aggregate-result
 slice-aggregate-result c = search rules
 
 returns : tie.Need-returns
-returns c = part-rest c.before.before.args.part.now (c.before.before.args.length + 1)
+returns c = part_rest c.before.before.args.part.now (c.before.before.args.length + 1)
 
 returns-2 : tie.Need-returns-2
 returns-2 c =

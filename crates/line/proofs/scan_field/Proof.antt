@@ -7,8 +7,8 @@ use lib.ListN.{length, drop, drop_of_length-le}
 use Rattle.number.specs.Reader.{after}
 use Rattle.line.specs.Types.{Empty}
 use Rattle.line.specs.Fields.{index_of, before}
-use Rattle.line.specs.Scans.{fieldScan}
-use Rattle.line.proofs.Fields.{index-here, index-next, before_here, before-next}
+use Rattle.line.specs.Scans.{field_scan}
+use Rattle.line.proofs.Fields.{index_here, index_next, before_here, before_next}
 use borrow.Author.Rules.{rules}
 use Rattle.line.proofs.scan_field.Statement.{statement}
 use Rattle.line.proofs.scan_field.Tie as tie
@@ -32,12 +32,12 @@ shared-slice-read-if1 : tie.Need-shared-slice-read-if1 invariant-loop decreases-
 shared-slice-read-if1 c = omega arith
 
 returns : tie.Need-returns invariant-loop decreases-loop
-unfolding fieldScan after
+unfolding field_scan after
 returns c =
     let a = c.before.before.before.before.before.before.args in
     let o = c.before.before.before.loop in
     let h = c.before.before.loop-test.true in
-    let e : index_of a.separator a.part.now ≡ o.i = omega (arith, index-here a.separator a.part.now o.i h c.if1.true) in
+    let e : index_of a.separator a.part.now ≡ o.i = omega (arith, index_here a.separator a.part.now o.i h c.if1.true) in
     let n : o.reader ≡ after Empty (before a.separator a.part.now) = rw (before_here a.separator a.part.now o.i h c.if1.true) at o.invariant.2 in
     rw (e, n)
 
@@ -61,12 +61,12 @@ loop-again c =
     let h = c.before.before.before.before.loop-test.true in
     let more = c.before.before.if1.false in (
       omega arith,
-      omega (arith, index-next a.separator a.part.now o.i h more),
-      rw c.push.ensures (rw (before-next a.separator a.part.now o.i h more) at o.invariant.2),
+      omega (arith, index_next a.separator a.part.now o.i h more),
+      rw c.push.ensures (rw (before_next a.separator a.part.now o.i h more) at o.invariant.2),
     )
 
 returns-2 : tie.Need-returns-2 invariant-loop decreases-loop
-unfolding fieldScan index_of before after
+unfolding field_scan index_of before after
 returns-2 c =
     let a = c.before.before.before.before.args in
     let o = c.before.loop in

@@ -6,8 +6,8 @@ use mathlib.Core.Logic.{⊎_elim}
 use native.Mathlib.Omega.{arith}
 use lib.ListN.{length, drop, drop_of_length-le}
 use Rattle.line.specs.Fields.{LF, tab, index_of, before, count_of}
-use Rattle.line.specs.Scans.{lineScan}
-use Rattle.line.proofs.Fields.{index-here, index-next, before_here, count-here, count_next}
+use Rattle.line.specs.Scans.{line_scan}
+use Rattle.line.proofs.Fields.{index_here, index_next, before_here, count_here, count_next}
 use Rattle.line.proofs.scan_line.Statement.{statement}
 use Rattle.line.proofs.scan_line.Tie as tie
 
@@ -28,12 +28,12 @@ shared-slice-read-byte : tie.Need-shared-slice-read-byte invariant-loop decrease
 shared-slice-read-byte c = omega arith
 
 returns : tie.Need-returns invariant-loop decreases-loop
-unfolding lineScan count_of
+unfolding line_scan count_of
 returns c =
     let s = c.before.before.before.before.before.args.text.now in
     let o = c.before.before.before.before.loop in
     let h = c.before.before.before.loop-test.true in
-    let e : index_of LF s ≡ o.i = omega (arith, index-here LF s o.i h c.if2.true) in
+    let e : index_of LF s ≡ o.i = omega (arith, index_here LF s o.i h c.if2.true) in
     let n : count_of tab (before LF s) ≡ o.tabs = omega (arith, rw (before_here LF s o.i h c.if2.true) at o.invariant.3) in
     rw (e, n)
 
@@ -52,14 +52,14 @@ loop-again c =
     let i = c.before.before.before.loop.i in
     let h = c.before.before.loop-test.true in
     ⊎_elim
-    (λ w. omega (arith, index-next LF s i h w.1.left, count-here LF tab s i h w.1.left w.2.taken))
+    (λ w. omega (arith, index_next LF s i h w.1.left, count_here LF tab s i h w.1.left w.2.taken))
     (⊎_elim
-    (λ w. omega (arith, index-next LF s i h w.1.left, count_next LF tab s i h w.1.left w.2.left))
-    (λ w. omega (arith, index-next LF s i h (λ e. omega (arith, w.0.left)), count_next LF tab s i h (λ e. omega (arith, w.0.left)) (λ e. omega (arith, w.0.left)))))
+    (λ w. omega (arith, index_next LF s i h w.1.left, count_next LF tab s i h w.1.left w.2.left))
+    (λ w. omega (arith, index_next LF s i h (λ e. omega (arith, w.0.left)), count_next LF tab s i h (λ e. omega (arith, w.0.left)) (λ e. omega (arith, w.0.left)))))
     c.if1.branch
 
 returns-2 : tie.Need-returns-2 invariant-loop decreases-loop
-unfolding lineScan index_of before count_of
+unfolding line_scan index_of before count_of
 returns-2 c =
     let s = c.before.before.args.text.now in
     let o = c.before.loop in

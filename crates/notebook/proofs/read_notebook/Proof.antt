@@ -1,5 +1,5 @@
 -- By the outcome of the rules text.
-use Rattle.notebook.proofs.Replies.{rules-refused, rules-accepted}
+use Rattle.notebook.proofs.Replies.{rules_refused, rules_accepted}
 use borrow.Author.Rules.{rules}
 use Rattle.notebook.proofs.read_notebook.Statement.{statement}
 use Rattle.notebook.proofs.read_notebook.Tie as tie
@@ -28,14 +28,14 @@ read-with-requires c κs = search rules
 returns : tie.Need-returns
 returns c =
     let k = c.before.before.before.before.before in
-    rules-refused _ _ k.read-rules.result _ _ _ k.read-rules.ensures c.before.before.outcome.given.1
+    rules_refused _ _ k.read_rules_lem.result _ _ _ k.read_rules_lem.ensures c.before.before.outcome.given.1
     (record { outcome = c.refused.ensures.0; run = c.refused.ensures.1 })
 
 -- src/lib.rt:82:1
 returns-2 : tie.Need-returns-2
 returns-2 c =
     let k = c.before.before.before.before in
-    rules-accepted _ _ k.read-rules.result _ k.read-rules.ensures c.before.enum_told.given.1 c.read-with.ensures
+    rules_accepted _ _ k.read_rules_lem.result _ k.read_rules_lem.ensures c.before.enum_told.given.1 c.read-with.ensures
 
 pub read-notebook-spec : {M : Type 1} → statement M
 read-notebook-spec =

@@ -1,5 +1,5 @@
 -- By the outcome of the cycle text.
-use Rattle.notebook.proofs.Replies.{cycle-refused, cycle-accepted}
+use Rattle.notebook.proofs.Replies.{cycle_refused, cycle_accepted}
 use borrow.Author.Rules.{rules}
 use Rattle.notebook.proofs.read_with.Statement.{statement}
 use Rattle.notebook.proofs.read_with.Tie as tie
@@ -28,14 +28,14 @@ finished-requires c κs = search rules
 returns : tie.Need-returns
 returns c =
     let k = c.before.before.before.before in
-    cycle-refused _ _ k.read-cycle.result _ _ _ k.read-cycle.ensures c.before.before.outcome.given.1
+    cycle_refused _ _ k.read-cycle.result _ _ _ k.read-cycle.ensures c.before.before.outcome.given.1
     (record { outcome = c.refused.ensures.0; run = c.refused.ensures.1 })
 
 -- src/lib.rt:64:1
 returns-2 : tie.Need-returns-2
 returns-2 c =
     let k = c.before.before.before.before in
-    cycle-accepted _ _ k.read-cycle.result _ k.read-cycle.ensures c.before.before.enum_told.given.1 c.finished.ensures
+    cycle_accepted _ _ k.read-cycle.result _ k.read-cycle.ensures c.before.before.enum_told.given.1 c.finished.ensures
 
 pub read-with-spec : {M : Type 1} → statement M
 read-with-spec =

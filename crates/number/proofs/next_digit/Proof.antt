@@ -3,7 +3,7 @@
 use mathlib.Core.Path.{sym, ◌∙◌}
 use native.Mathlib.Omega.{arith}
 use Rattle.number.specs.Reader.{pushed}
-use Rattle.number.proofs.Digits.{digit_low, digit-high}
+use Rattle.number.proofs.Digits.{digit_low, digit_high}
 use borrow.Author.Rules.{rules}
 use Rattle.number.proofs.next_digit.Statement.{statement}
 use Rattle.number.proofs.next_digit.Tie as tie
@@ -18,7 +18,7 @@ cast_extend : tie.Need-overflow-cast-extend
 cast_extend c = search rules
 
 extend-requires : tie.Need-extend-requires
-extend-requires c κs = omega (arith, digit-high _ (sym c.before.is_digit.ensures ∙ c.if1.true))
+extend-requires c κs = omega (arith, digit_high _ (sym c.before.is_digit.ensures ∙ c.if1.true))
 
 returns : tie.Need-returns
 unfolding pushed

@@ -1,7 +1,7 @@
 -- By the notebook's outcome.
 use native.Mathlib.Omega.{arith}
-use Rattle.notebook.proofs.Read.{refused-at}
-use Rattle.printing.proofs.Texts.{closed-valid, closed-printed, closed-few, refused-reply, refused-printed, refused-few}
+use Rattle.notebook.proofs.Read.{refused_at}
+use Rattle.printing.proofs.Texts.{closed_valid, closed_printed, closed_few, refused_reply, refused_printed, refused_few}
 use borrow.Author.Rules.{rules}
 use Rattle.printing.proofs.print_texts.Statement.{statement}
 use Rattle.printing.proofs.print_texts.Tie as tie
@@ -25,7 +25,7 @@ cast-write-refused : tie.Need-overflow-cast-write-refused
 cast-write-refused c =
     let told = c.before.before in
     let read = told.before.before in
-    omega (arith, refused-at _ _ _ _ _ (refused-reply _ _ _ read.read-notebook.ensures.0 _ _ _ told.outcome.given.1))
+    omega (arith, refused_at _ _ _ _ _ (refused_reply _ _ _ read.read-notebook.ensures.0 _ _ _ told.outcome.given.1))
 
 write-refused-requires : tie.Need-write-refused-requires
 write-refused-requires c κs = search rules
@@ -41,8 +41,8 @@ returns c =
     let replies = read.read-notebook.ensures.0 in
     let closed = told.enum_told.given.1 in
     record {
-      writes = rw (closed-valid _ _ _ replies closed, closed-printed _ _ _ replies closed) at written.write-report.ensures;
-      few = closed-few _ _ _ replies closed;
+      writes = rw (closed_valid _ _ _ replies closed, closed_printed _ _ _ replies closed) at written.write_report_lem.ensures;
+      few = closed_few _ _ _ replies closed;
     }
 
 same-length-2 : tie.Need-same-length-2
@@ -57,8 +57,8 @@ returns-2 c =
     let replies = read.read-notebook.ensures.0 in
     let refused = told.outcome.given.1 in
     record {
-      writes = rw (number.number_of_lem.ensures, refused-printed _ _ _ replies _ _ _ refused) at written.write-refused.ensures;
-      few = refused-few _ _ _ replies _ _ _ refused (omega (arith, number.number_of_lem.ensures));
+      writes = rw (number.number_of_lem.ensures, refused_printed _ _ _ replies _ _ _ refused) at written.write-refused.ensures;
+      few = refused_few _ _ _ replies _ _ _ refused (omega (arith, number.number_of_lem.ensures));
     }
 
 pub print-texts-spec : {M : Type 1} → statement M

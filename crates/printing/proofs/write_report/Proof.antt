@@ -3,17 +3,17 @@ use mathlib.Core.Path.{◌≡◌, sym, ◌∙◌}
 use mathlib.Core.Bool.{true}
 use borrow.Author.Tests.{not-true, not-false}
 use lib.Seq.{length-take-le}
-use Rattle.run.specs.Records.{validRun}
-use Rattle.run.proofs.Bounds.{valid-parts}
-use Rattle.buffer.proofs.Puts.{puts-within}
+use Rattle.run.specs.Records.{valid_run}
+use Rattle.run.proofs.Bounds.{valid_parts}
+use Rattle.buffer.proofs.Puts.{puts_within}
 use Rattle.buffer.proofs.Writes.{refuses, hands_on}
-use Rattle.printing.proofs.Room.{report-within}
+use Rattle.printing.proofs.Room.{report_within}
 use borrow.Author.Rules.{rules}
 use Rattle.printing.proofs.write_report.Statement.{statement}
 use Rattle.printing.proofs.write_report.Tie as tie
 
-past-valid : (c : tie.Else1) → validRun c.before.before.before.args.run ≡ true
-past-valid c = sym c.before.valid-run.ensures ∙ not-false _ c.if1.false
+past_valid : (c : tie.Else1) → valid_run c.before.before.before.args.run ≡ true
+past_valid c = sym c.before.valid-run.ensures ∙ not-false _ c.if1.false
 
 valid-run-requires : tie.Need-valid-run-requires
 valid-run-requires c κs = search rules
@@ -26,14 +26,14 @@ slice-aggregate-put-report c = search rules
 
 put-report-requires : tie.Need-put-report-requires
 put-report-requires c κs =
-    let p = valid-parts _ (past-valid c.before) in
-    (p.rules-fit, p.events-fit)
+    let p = valid_parts _ (past_valid c.before) in
+    (p.rules_fit, p.events_fit)
 
 array-share-prefix-text : tie.Need-array-share-prefix-text
-array-share-prefix-text c = puts-within c.before.put-report.ensures
+array-share-prefix-text c = puts_within c.before.put-report.ensures
 
 slice-aggregate-write : tie.Need-slice-aggregate-write
-slice-aggregate-write c = sym (length-take-le _ _ (puts-within c.before.before.put-report.ensures))
+slice-aggregate-write c = sym (length-take-le _ _ (puts_within c.before.before.put-report.ensures))
 
 write-requires : tie.Need-write-requires
 write-requires c κs = search rules
@@ -45,8 +45,8 @@ returns-2 : tie.Need-returns-2
 returns-2 c =
     let written = c.before.before in
     let put = written.before.before.before.before in
-    let v = past-valid put.before.before in
-    hands_on v (report-within _ v).most put.put-report.ensures written.write.ensures
+    let v = past_valid put.before.before in
+    hands_on v (report_within _ v).most put.put-report.ensures written.write.ensures
 
 pub write-report-spec : {M : Type 1} → statement M
 write-report-spec =

@@ -11,14 +11,14 @@ use Rattle.declare.specs.declared.Refusal.{Refusal}
 use Rattle.buffer.specs.declared.WriteAnswer.{WriteAnswer}
 use Rattle.buffer.specs.declared.WriteAnswer.TheVariants.{Written, Refused}
 use Rattle.buffer.specs.Writes.{Writes}
-use Rattle.buffer.proofs.Writes.{comes-out}
+use Rattle.buffer.proofs.Writes.{comes_out}
 use borrow.Author.Rules.{rules}
 use Rattle.report.proofs.printed.Statement.{statement}
 use Rattle.report.proofs.printed.Tie as tie
 
 front : (text before after : List ℕ) (answer : WriteAnswer) (n : ℕ) → length text ≤ length before → Writes true text before after answer → answer ≡ Written n → IsPrefixLen n after × (take n after ≡ text)
 front text before after answer n room w e =
-    let p = comes-out true text before after answer refl room w in
+    let p = comes_out true text before after answer refl room w in
     let m : n ≡ length text = cc in
     let whole : take n after ≡ text = rw (m, p.1) (take-append_seam text (drop (length text) before)) in
     let fits : n ≤ length after = rw (m, p.1, length-append text (drop (length text) before)) (omega arith) in
@@ -26,7 +26,7 @@ front text before after answer n room w e =
 
 never : (text before after : List ℕ) (answer : WriteAnswer) (cause : Refusal) → length text ≤ length before → Writes true text before after answer → answer ≡ Refused cause → ⊥
 never text before after answer cause room w e =
-    let p = (comes-out true text before after answer refl room w).0 in
+    let p = (comes_out true text before after answer refl room w).0 in
     let z : ◌≡◌ {A = ℕ} 0 1 = cc in
     omega arith
 
@@ -42,14 +42,14 @@ enum_told c = search rules
 returns : tie.Need-returns
 returns c =
     let call = c.before.before.before in
-    let w = call.print-texts.ensures in
+    let w = call.print_texts_lem.ensures in
     let room : length call.before.before.before.before.args.out.now ≡ 53792 = search rules in
     front _ _ _ _ _ (omega arith) w.writes c.before.length.given.1
 
 returns-2 : tie.Need-returns-2
 returns-2 c =
     let call = c.before.before in
-    let w = call.print-texts.ensures in
+    let w = call.print_texts_lem.ensures in
     let room : length call.before.before.before.before.args.out.now ≡ 53792 = search rules in
     absurd (never _ _ _ _ _ (omega arith) w.writes c.enum_told.given.1)
 

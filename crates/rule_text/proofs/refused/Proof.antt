@@ -10,7 +10,7 @@ no-rule-requires c κs = search rules
 
 returns : tie.Need-returns
 unfolding padded table_of
-returns c = (refl, rw c.no-rule.ensures)
+returns c = (refl, rw c.no_rule_lem.ensures)
 
 pub refused-spec : {M : Type 1} → statement M
 refused-spec = tie.close (tie.spec no-rule-requires returns)

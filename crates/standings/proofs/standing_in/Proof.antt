@@ -4,7 +4,7 @@ use Prim.Native.Nat.{◌-◌}
 use native.Mathlib.Omega.{arith}
 use lib.ListN.{length}
 use borrow.Author.Rules.{rules}
-use Rattle.standings.specs.Places.{places, standingFrom}
+use Rattle.standings.specs.Places.{places, standing_from}
 use Rattle.standings.proofs.Rows.{past_row, in_row}
 use Rattle.standings.proofs.standing_in.Statement.{statement}
 use Rattle.standings.proofs.standing_in.Tie as tie
@@ -35,7 +35,7 @@ array-copy-out-c : tie.Need-array-copy-out-c
 array-copy-out-c c = search rules
 
 returns-2 : tie.Need-returns-2
-unfolding standingFrom
+unfolding standing_from
 returns-2 c =
     let a = c.before.before.before.before in
     let p : c.before.before.less_one.result ≡ a.args.position - 1 = c.before.before.less_one.ensures in

@@ -9,23 +9,23 @@ use lib.Dec.{leb}
 use lib.ListN.{length, get_or-eq_default}
 use Rattle.declare.specs.declared.Standing.TheVariants.{Idle}
 use Rattle.declare.specs.declared.Table.{Table}
-use Rattle.declare.specs.Limits.{mostRules}
-use Rattle.declare.specs.Rules.{isOverallRule}
+use Rattle.declare.specs.Limits.{most_rules}
+use Rattle.declare.specs.Rules.{is_overall_rule}
 use Rattle.declare.proofs.Booleans.{neither}
 use Rattle.standings.specs.declared.Cell.{Cell}
-use Rattle.standings.specs.Places.{idleCell, overallIn, zeroIn}
+use Rattle.standings.specs.Places.{idle_cell, overall_in, zero_in}
 use borrow.Author.Rules.{rules}
 use Rattle.standings.proofs.zero_in.Statement.{statement}
 use Rattle.standings.proofs.zero_in.Tie as tie
 
-none : (t : Table) (cells : List Cell) (k : ℕ) → length cells ≡ mostRules → (not (isOverallRule t k) || leb 16 (k - 1)) ≡ true → Idle ≡ zeroIn t cells k
-unfolding zeroIn overallIn
-none t cells k full h = go (isOverallRule t k) h
+none : (t : Table) (cells : List Cell) (k : ℕ) → length cells ≡ most_rules → (not (is_overall_rule t k) || leb 16 (k - 1)) ≡ true → Idle ≡ zero_in t cells k
+unfolding zero_in overall_in
+none t cells k full h = go (is_overall_rule t k) h
   where
-    go : (o : Bool) → (not o || leb 16 (k - 1)) ≡ true → Idle ≡ cond o (overallIn cells k) Idle
+    go : (o : Bool) → (not o || leb 16 (k - 1)) ≡ true → Idle ≡ cond o (overall_in cells k) Idle
     go true h =
         let past : length cells ≤ k - 1 = omega (arith, leb-true 16 (k - 1) h, full) in
-        sym (ap (λ (c : Cell). c.standing) (get_or-eq_default cells idleCell past))
+        sym (ap (λ (c : Cell). c.standing) (get_or-eq_default cells idle_cell past))
     go false h = refl
 
 less-one-requires : tie.Need-less-one-requires
@@ -37,7 +37,7 @@ is-overall-rule-requires c κs = search rules
 returns : tie.Need-returns
 returns c =
     let a = c.before.before.before.args in
-    let full : length a.t2 ≡ mostRules = search rules in
+    let full : length a.t2 ≡ most_rules = search rules in
     none a.table a.t2 a.rule full (rw (c.before.is-overall-rule.ensures, c.before.before.less_one.ensures) at c.if1.true)
 
 within : (c : tie.Else1) → c.before.before.less_one.result < 16
@@ -50,7 +50,7 @@ array-copy-out-c : tie.Need-array-copy-out-c
 array-copy-out-c c = let w = within c in search rules
 
 returns-2 : tie.Need-returns-2
-unfolding zeroIn overallIn
+unfolding zero_in overall_in
 returns-2 c =
     let e = c.before in
     let of-cycle = sym e.before.is-overall-rule.ensures ∙ not-false _ (neither _ _ e.if1.false).0 in

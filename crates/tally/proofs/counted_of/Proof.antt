@@ -11,7 +11,7 @@ counted-by-requires : tie.Need-counted-by-requires
 counted-by-requires c κs = search rules
 
 returns : tie.Need-returns
-returns c = counts _ _ _ _ c.before.totals.ensures c.counted-by.ensures
+returns c = counts _ _ _ _ c.before.totals.ensures c.counted_by_lem.ensures
 
 pub counted-of-spec : {M : Type 1} → statement M
 counted-of-spec = tie.close (tie.spec totals-requires counted-by-requires returns)

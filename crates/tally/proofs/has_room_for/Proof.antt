@@ -1,5 +1,5 @@
 -- Each field by itself, in the order of the definition.
-use Rattle.tally.specs.Tally.{hasRoomFor}
+use Rattle.tally.specs.Tally.{has_room_for}
 use borrow.Author.Rules.{rules}
 use Rattle.tally.proofs.has_room_for.Statement.{statement}
 use Rattle.tally.proofs.has_room_for.Tie as tie
@@ -26,7 +26,7 @@ has-room-requires-4 : tie.Need-has-room-requires-4
 has-room-requires-4 c κs = search rules
 
 returns : tie.Need-returns
-unfolding hasRoomFor
+unfolding has_room_for
 returns c = rw (c.has-room4.ensures, c.before.number3.ensures, c.before.before.has-room3.ensures, c.before.before.before.number2.ensures, c.before.before.before.before.has-room2.ensures, c.before.before.before.before.before.number.ensures, c.before.before.before.before.before.before.has_room.ensures)
 
 pub has-room-for-spec : {M : Type 1} → statement M

@@ -3,7 +3,7 @@ use mathlib.Core.Path.{◌≡◌, sym, ◌∙◌}
 use mathlib.Core.Bool.{true}
 use native.Mathlib.Omega.{arith}
 use borrow.Author.Tests.{not-true, not-false}
-use Rattle.tally.specs.Tally.{hasRoomFor}
+use Rattle.tally.specs.Tally.{has_room_for}
 use Rattle.tally.specs.Sums.{summed}
 use Rattle.tally.proofs.Sums.{Room, room}
 use borrow.Author.Rules.{rules}
@@ -11,7 +11,7 @@ use Rattle.tally.proofs.with_totals.Statement.{statement}
 use Rattle.tally.proofs.with_totals.Tie as tie
 
 -- where the code goes on, all fields have room
-fitting : (c : tie.Else1) → hasRoomFor c.before.before.args.tally c.before.before.args.totals ≡ true
+fitting : (c : tie.Else1) → has_room_for c.before.before.args.tally c.before.before.args.totals ≡ true
 fitting c = sym c.before.has-room-for.ensures ∙ not-false _ c.if1.false
 
 roomy : (c : tie.Else1) → Room c.before.before.args.tally c.before.before.args.totals

@@ -9,49 +9,49 @@ use borrow.Author.Tests.{ltb-true, ltb-false}
 use lib.Dec.{ltb}
 use lib.ListN.{length, take, drop, set, length-set, length-append, length-drop}
 use lib.Seq.{set_split, drop_at, length-take-le, take_all}
-use Rattle.number.specs.Written.{digitsOf}
-use Rattle.number.proofs.Written.{digits-one, digits_more}
-use Rattle.number.proofs.Lengths.{digits-length}
-use Rattle.buffer.proofs.Puts.{puts-as}
+use Rattle.number.specs.Written.{digits_of}
+use Rattle.number.proofs.Written.{digits_one, digits_more}
+use Rattle.number.proofs.Lengths.{digits_length}
+use Rattle.buffer.proofs.Puts.{puts_as}
 use borrow.Author.Rules.{rules}
 use Rattle.buffer.proofs.numbers.put_number.Statement.{statement}
 use Rattle.buffer.proofs.numbers.put_number.Tie as tie
 
 abbrev invariant-loop : tie.invariant-loop
 invariant-loop out at n digits₀ left₀ first₀ digits left first =
-    (length digits ≡ 10) × (first ≤ 9) × (length (digitsOf left) ≤ first + 1) × (digitsOf n ≡ digitsOf left ++ drop (first + 1) digits)
+    (length digits ≡ 10) × (first ≤ 9) × (length (digits_of left) ≤ first + 1) × (digits_of n ≡ digits_of left ++ drop (first + 1) digits)
 
 abbrev decreases-loop : tie.decreases-loop
 decreases-loop out at n digits₀ left₀ first₀ digits left first = left
 
 -- ---- the digits by number
 
-shorter : (n : ℕ) → 10 ≤ n → length (digitsOf n) ≡ length (digitsOf (n / 10)) + 1
-shorter n h = rw (digits_more n h) (length-append (digitsOf (n / 10)) ((48 + n % 10) ∷ []))
+shorter : (n : ℕ) → 10 ≤ n → length (digits_of n) ≡ length (digits_of (n / 10)) + 1
+shorter n h = rw (digits_more n h) (length-append (digits_of (n / 10)) ((48 + n % 10) ∷ []))
 
-some : (n : ℕ) → 1 ≤ length (digitsOf n)
+some : (n : ℕ) → 1 ≤ length (digits_of n)
 some n = go (ltb n 10) refl
   where
-    go : (t : Bool) → ltb n 10 ≡ t → 1 ≤ length (digitsOf n)
-    go true e = rw (digits-one n (ltb-true n 10 e)) (omega arith)
+    go : (t : Bool) → ltb n 10 ≡ t → 1 ≤ length (digits_of n)
+    go true e = rw (digits_one n (ltb-true n 10 e)) (omega arith)
     go false e = omega (arith, shorter n (ltb-false n 10 e))
 
 -- a digit before those that stand from i + 1 on
 before : (l : List ℕ) (i b : ℕ) → i < length l → drop i (set l i b) ≡ b ∷ drop (i + 1) l
 before l i b h = rw (set_split l i b h, add-one i) (drop_at (take i l) (b ∷ drop (suc i) l) i (length-take-le i l (omega arith)))
 
-again : (l : List ℕ) (i left n : ℕ) → i < length l → 10 ≤ left → digitsOf n ≡ digitsOf left ++ drop (i + 1) l → digitsOf n ≡ digitsOf (left / 10) ++ drop i (set l i (48 + left % 10))
+again : (l : List ℕ) (i left n : ℕ) → i < length l → 10 ≤ left → digits_of n ≡ digits_of left ++ drop (i + 1) l → digits_of n ≡ digits_of (left / 10) ++ drop i (set l i (48 + left % 10))
 again l i left n h m e =
     rw (before l i (48 + left % 10) h)
-    (e ∙ rw (digits_more left m) (append_assoc (digitsOf (left / 10)) ((48 + left % 10) ∷ []) (drop (i + 1) l)))
+    (e ∙ rw (digits_more left m) (append_assoc (digits_of (left / 10)) ((48 + left % 10) ∷ []) (drop (i + 1) l)))
 
 -- the last of them, and all
-last : (l : List ℕ) (i left n : ℕ) → length l ≡ 10 → i < 10 → left < 10 → digitsOf n ≡ digitsOf left ++ drop (i + 1) l → take (10 - i) (drop i (set l i (48 + left))) ≡ digitsOf n
+last : (l : List ℕ) (i left n : ℕ) → length l ≡ 10 → i < 10 → left < 10 → digits_of n ≡ digits_of left ++ drop (i + 1) l → take (10 - i) (drop i (set l i (48 + left))) ≡ digits_of n
 last l i left n s h m e =
     let few : length (drop i (set l i (48 + left))) ≤ 10 - i = rw (length-drop i (set l i (48 + left)), length-set l i (48 + left)) (omega arith) in
     take_all (10 - i) (drop i (set l i (48 + left))) few
     ∙ before l i (48 + left) (omega arith)
-    ∙ sym (e ∙ rw (digits-one left m))
+    ∙ sym (e ∙ rw (digits_one left m))
 
 add-put-byte : tie.Need-overflow-add-put-byte invariant-loop decreases-loop
 add-put-byte c = search rules
@@ -66,12 +66,12 @@ same_length : tie.Need-same-length invariant-loop decreases-loop
 same_length c = search rules
 
 returns : tie.Need-returns invariant-loop decreases-loop
-returns c = rw (digits-one c.before.before.before.before.before.before.args.n (omega arith)) c.before.before.put_byte.ensures
+returns c = rw (digits_one c.before.before.before.before.before.before.args.n (omega arith)) c.before.before.put_byte.ensures
 
 loop-holds : tie.Need-loop-init invariant-loop decreases-loop
 loop-holds c =
     let n = c.before.before.args.n in
-    (refl, omega arith, digits-length 9 n (omega arith), sym (append-nil (digitsOf n)))
+    (refl, omega arith, digits_length 9 n (omega arith), sym (append-nil (digits_of n)))
 
 add-digits : tie.Need-overflow-add-digits invariant-loop decreases-loop
 add-digits c = search rules
@@ -133,7 +133,7 @@ returns-2 : tie.Need-returns-2 invariant-loop decreases-loop
 returns-2 c =
     let l = c.before.before.before.before.before.before.before.loop in
     let p = c.before.before.put-bytes.ensures in
-    puts-as (last l.digits l.first l.left _ l.invariant.0 (omega arith) (omega arith) l.invariant.3) p
+    puts_as (last l.digits l.first l.left _ l.invariant.0 (omega arith) (omega arith) l.invariant.3) p
 
 pub put-number-spec : {M : Type 1} → statement M
 put-number-spec =

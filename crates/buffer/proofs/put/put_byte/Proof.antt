@@ -1,5 +1,5 @@
 -- One byte: set where there is room.
-use Rattle.buffer.proofs.Puts.{puts_one, puts-full}
+use Rattle.buffer.proofs.Puts.{puts_one, puts_full}
 use borrow.Author.Rules.{rules}
 use Rattle.buffer.proofs.put.put_byte.Statement.{statement}
 use Rattle.buffer.proofs.put.put_byte.Tie as tie
@@ -17,7 +17,7 @@ returns : tie.Need-returns
 returns c = puts_one _ _ _ c.if1.true
 
 returns-2 : tie.Need-returns-2
-returns-2 c = puts-full _ _ _ c.if1.false
+returns-2 c = puts_full _ _ _ c.if1.false
 
 pub put-byte-spec : {M : Type 1} → statement M
 put-byte-spec = tie.close (tie.spec slice-write-out add-result same_length returns returns-2)

@@ -10,7 +10,7 @@ use lib.Dec.{ltb}
 use lib.ListN.{length, take, drop, set, get_or, take-append-drop}
 use lib.Seq.{take-suc, take_all}
 use Rattle.buffer.specs.Puts.{Puts}
-use Rattle.buffer.proofs.Puts.{puts_none, puts_one, puts_then, puts-as, puts-full, puts-length}
+use Rattle.buffer.proofs.Puts.{puts_none, puts_one, puts_then, puts_as, puts_full, puts_length}
 use borrow.Author.Rules.{rules}
 use Rattle.buffer.proofs.put.put_bytes.Statement.{statement}
 use Rattle.buffer.proofs.put.put_bytes.Tie as tie
@@ -32,14 +32,14 @@ rest : (bytes l m : List ℕ) (at n : ℕ) → n ≡ min (length bytes) (length 
 rest bytes l m at n e h p = go (ltb n (length bytes)) refl
   where
     go : (t : Bool) → ltb n (length bytes) ≡ t → Puts bytes l at m (at + n)
-    go false s = puts-as (take_all n bytes (ltb-false n (length bytes) s)) p
+    go false s = puts_as (take_all n bytes (ltb-false n (length bytes) s)) p
     go true s =
-        let k : length m ≡ length l = puts-length p in
+        let k : length m ≡ length l = puts_length p in
         let full : length m ≤ at + n = omega (arith, ltb-true n (length bytes) s) in
-        puts-as (take-append-drop n bytes) (puts_then p (puts-full (drop n bytes) m (at + n) full))
+        puts_as (take-append-drop n bytes) (puts_then p (puts_full (drop n bytes) m (at + n) full))
 
 returns : tie.Need-returns invariant-loop decreases-loop
-returns c = puts-full _ _ _ c.if1.true
+returns c = puts_full _ _ _ c.if1.true
 
 sub-min : tie.Need-overflow-sub-min invariant-loop decreases-loop
 sub-min c = search rules
@@ -62,7 +62,7 @@ add-out c = search rules
 slice-write-out : tie.Need-slice-write-out invariant-loop decreases-loop
 slice-write-out c =
     let k : length c.before.before.loop.out ≡ length c.before.before.before.before.before.before.before.args.out.now =
-    puts-length c.before.before.loop.invariant.1 in
+    puts_length c.before.before.loop.invariant.1 in
     omega arith
 
 add-i : tie.Need-overflow-add-i invariant-loop decreases-loop
@@ -75,7 +75,7 @@ loop-again : tie.Need-loop-preserved invariant-loop decreases-loop
 loop-again c =
     let a = c.before.before.before.before.before.before.before.args in
     let l = c.before.before.loop in
-    let k : length l.out ≡ length a.out.now = puts-length l.invariant.1 in
+    let k : length l.out ≡ length a.out.now = puts_length l.invariant.1 in
     let fits : a.at + l.i < length l.out = omega arith in
     (omega arith, more a.bytes.now a.out.now l.out a.at l.i (omega arith) fits l.invariant.1)
 
@@ -83,7 +83,7 @@ add-result : tie.Need-overflow-add-result invariant-loop decreases-loop
 add-result c = search rules
 
 same_length : tie.Need-same-length invariant-loop decreases-loop
-same_length c = puts-length c.before.loop.invariant.1
+same_length c = puts_length c.before.loop.invariant.1
 
 returns-2 : tie.Need-returns-2 invariant-loop decreases-loop
 returns-2 c =

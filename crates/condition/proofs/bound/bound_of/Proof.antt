@@ -1,6 +1,6 @@
 -- The rule's target and window, the activation's time, and the correlation's four comparisons, each
 -- made a test.
-use Rattle.condition.specs.Bound.{testsFor, boundOf}
+use Rattle.condition.specs.Bound.{tests_for, bound_of}
 use borrow.Author.Rules.{rules}
 use Rattle.condition.proofs.bound.bound_of.Statement.{statement}
 use Rattle.condition.proofs.bound.bound_of.Tie as tie
@@ -18,7 +18,7 @@ test-of-requires-4 : tie.Need-test-of-requires-4
 test-of-requires-4 c κs = search rules
 
 returns : tie.Need-returns
-unfolding boundOf testsFor
+unfolding bound_of tests_for
 returns c = rw (c.test-of4.ensures, c.before.test-of3.ensures, c.before.before.test-of2.ensures, c.before.before.before.test_of.ensures)
 
 pub bound-of-spec : {M : Type 1} → statement M

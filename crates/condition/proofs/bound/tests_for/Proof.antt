@@ -1,5 +1,5 @@
 -- Four comparisons, each made a test.
-use Rattle.condition.specs.Bound.{testsFor}
+use Rattle.condition.specs.Bound.{tests_for}
 use borrow.Author.Rules.{rules}
 use Rattle.condition.proofs.bound.tests_for.Statement.{statement}
 use Rattle.condition.proofs.bound.tests_for.Tie as tie
@@ -17,7 +17,7 @@ test-of-requires-4 : tie.Need-test-of-requires-4
 test-of-requires-4 c κs = search rules
 
 returns : tie.Need-returns
-unfolding testsFor
+unfolding tests_for
 returns c = rw (c.test-of4.ensures, c.before.test-of3.ensures, c.before.before.test-of2.ensures, c.before.before.before.test_of.ensures)
 
 pub tests-for-spec : {M : Type 1} → statement M

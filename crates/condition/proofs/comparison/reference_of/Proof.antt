@@ -3,7 +3,7 @@ use mathlib.Core.Path.{◌≡◌}
 use mir.Syntax.{w32}
 use mir.Val.{to_z, of_z}
 use borrow.Author.Rules.{sfits_of, rules}
-use Rattle.declare.specs.Comparisons.{referenceOf}
+use Rattle.declare.specs.Comparisons.{reference_of}
 use Rattle.declare.proofs.Casts.{widens, widened}
 use Rattle.condition.proofs.comparison.reference_of.Statement.{statement}
 use Rattle.condition.proofs.comparison.reference_of.Tie as tie
@@ -24,11 +24,11 @@ plus-requires : tie.Need-plus-requires
 plus-requires c κs = search rules
 
 returns : tie.Need-returns
-unfolding referenceOf
+unfolding reference_of
 returns c = rw (c.before.reference.given.1, widened {z = c.before.reference.given.0.0} (sfits_of c.known-told.given.0.1))
 
 returns-2 : tie.Need-returns-2
-unfolding referenceOf
+unfolding reference_of
 returns-2 c =
     let k : to_z w32 (of_z w32 c.before.before.before.reference2.given.0.1.0) ≡ c.before.before.before.reference2.given.0.1.0 = search rules in
     rw (c.before.before.before.reference2.given.1, c.plus.ensures, c.before.reading-of.ensures, k)

@@ -9,7 +9,7 @@ use mir.Val.{to_z, of_z}
 use mir.Facts.{to_z-of_z}
 use Rattle.declare.specs.Events.{greatest}
 use Rattle.declare.specs.Reachability.{after}
-use Rattle.condition.proofs.Sums.{after-fits}
+use Rattle.condition.proofs.Sums.{after_fits}
 use Rattle.condition.proofs.reachability.after.Statement.{statement}
 use Rattle.condition.proofs.reachability.after.Tie as tie
 
@@ -20,14 +20,14 @@ add-result : tie.Need-overflow-add-result
 unfolding greatest
 add-result c =
     let s = c.before in
-    rw (kept s) (after-fits s.args.y s.ranges.y (rw (kept s) at c.if1.true))
+    rw (kept s) (after_fits s.args.y s.ranges.y (rw (kept s) at c.if1.true))
 
 returns : tie.Need-returns
 unfolding after greatest
 returns c =
     let s = c.before in
     let below : lt_z s.args.y greatest ≡ true = rw (kept s) at c.if1.true in
-    rw (kept s, to_z-of_z {w = w64} {z = s.args.y +ℤ pos 1} (after-fits s.args.y s.ranges.y below), below)
+    rw (kept s, to_z-of_z {w = w64} {z = s.args.y +ℤ pos 1} (after_fits s.args.y s.ranges.y below), below)
     (+ℤ_one s.args.y)
 
 returns-2 : tie.Need-returns-2

@@ -5,7 +5,7 @@ use Prim.Native.Nat.{◌+◌, ◌-◌, max}
 use native.Mathlib.Omega.{arith}
 use borrow.Author.Tests.{le-leb, lt-leb}
 use Rattle.declare.specs.Events.{latest}
-use Rattle.declare.specs.Reachability.{soonest, hasRoom}
+use Rattle.declare.specs.Reachability.{soonest, has_room}
 use borrow.Author.Rules.{rules}
 use Rattle.condition.proofs.reachability.has_room.Statement.{statement}
 use Rattle.condition.proofs.reachability.has_room.Tie as tie
@@ -14,7 +14,7 @@ sub-if1 : tie.Need-overflow-sub-if1
 sub-if1 c = search rules
 
 returns : tie.Need-returns
-unfolding hasRoom soonest
+unfolding has_room soonest
 returns c =
     let t = c.before.args.time in
     let h = c.before.args.horizon in
@@ -28,7 +28,7 @@ within-requires : tie.Need-within-requires
 within-requires c κs = search rules
 
 returns-2 : tie.Need-returns-2
-unfolding hasRoom soonest
+unfolding has_room soonest
 returns-2 c =
     let t = c.before.before.before.args.time in
     let h = c.before.before.before.args.horizon in
@@ -44,7 +44,7 @@ within-requires-2 : tie.Need-within-requires-2
 within-requires-2 c κs = search rules
 
 returns-3 : tie.Need-returns-3
-unfolding hasRoom soonest
+unfolding has_room soonest
 returns-3 c =
     let t = c.before.before.before.args.time in
     let h = c.before.before.before.args.horizon in

@@ -22,11 +22,11 @@ after_first c =
     let s = c.before.before.before in
     kept (untried (asked s) (tests s)) c.before.before.if1.false (passed c.before.asks.ensures c.if2.false)
 
-after-second : (c : tie.Else4) → let s = c.before.before.before.before.before.before in Third (asked s) (tests s)
-after-second c = kept (after_first c.before.before.before) c.before.before.if3.false (passed c.before.asks2.ensures c.if4.false)
+after_second : (c : tie.Else4) → let s = c.before.before.before.before.before.before in Third (asked s) (tests s)
+after_second c = kept (after_first c.before.before.before) c.before.before.if3.false (passed c.before.asks2.ensures c.if4.false)
 
-after-third : (c : tie.Else6) → let s = c.before.before.before.before.before.before.before.before.before in Fourth (asked s) (tests s)
-after-third c = kept (after-second c.before.before.before) c.before.before.if5.false (passed c.before.asks3.ensures c.if6.false)
+after_third : (c : tie.Else6) → let s = c.before.before.before.before.before.before.before.before.before in Fourth (asked s) (tests s)
+after_third c = kept (after_second c.before.before.before) c.before.before.if5.false (passed c.before.asks3.ensures c.if6.false)
 
 returns : tie.Need-returns
 returns c =
@@ -51,22 +51,22 @@ returns-4 : tie.Need-returns-4
 returns-4 c = lost (after_first c.before.before.before) c.before.before.if3.false (failed c.before.asks2.ensures c.if4.true)
 
 returns-5 : tie.Need-returns-5
-returns-5 c = ended (after-second c.before) c.if5.true
+returns-5 c = ended (after_second c.before) c.if5.true
 
 asks-requires-3 : tie.Need-asks-requires-3
 asks-requires-3 c κs = search rules
 
 returns-6 : tie.Need-returns-6
-returns-6 c = lost (after-second c.before.before.before) c.before.before.if5.false (failed c.before.asks3.ensures c.if6.true)
+returns-6 c = lost (after_second c.before.before.before) c.before.before.if5.false (failed c.before.asks3.ensures c.if6.true)
 
 returns-7 : tie.Need-returns-7
-returns-7 c = ended (after-third c.before) c.if7.true
+returns-7 c = ended (after_third c.before) c.if7.true
 
 asks-requires-4 : tie.Need-asks-requires-4
 asks-requires-4 c κs = search rules
 
 returns-8 : tie.Need-returns-8
-returns-8 c = c.asks4.ensures ∙ last (after-third c.before.before) c.before.if7.false
+returns-8 c = c.asks4.ensures ∙ last (after_third c.before.before) c.before.if7.false
 
 pub meets-tests-spec : {M : Type 1} → statement M
 meets-tests-spec =

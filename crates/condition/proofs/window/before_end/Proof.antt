@@ -1,5 +1,5 @@
 -- No end, or a first difference outside.
-use Rattle.declare.specs.Suits.{beforeEnd}
+use Rattle.declare.specs.Suits.{before_end}
 use borrow.Author.Rules.{rules}
 use Rattle.condition.proofs.window.before_end.Statement.{statement}
 use Rattle.condition.proofs.window.before_end.Tie as tie
@@ -11,11 +11,11 @@ enum-known-until : tie.Need-enum-known-until
 enum-known-until c = search rules
 
 returns : tie.Need-returns
-unfolding beforeEnd
+unfolding before_end
 returns c = rw c.enum_told.given.1
 
 returns-2 : tie.Need-returns-2
-unfolding beforeEnd
+unfolding before_end
 returns-2 c = rw c.before.until.given.1
 
 pub before-end-spec : {M : Type 1} → statement M

@@ -6,7 +6,7 @@ use lib.Signed.{lt_z}
 use mir.Syntax.{w32, w64}
 use mir.Val.{to_z, of_z}
 use mir.Facts.{to_z-of_z}
-use Rattle.declare.proofs.Casts.{widens, widened, plain_fits, minus, minus-fits, magnitude-fits, magnitude-same}
+use Rattle.declare.proofs.Casts.{widens, widened, plain_fits, minus, minus_fits, magnitude_fits, magnitude_same}
 use Rattle.declare.proofs.numbers.magnitude.Statement.{statement}
 use Rattle.declare.proofs.numbers.magnitude.Tie as tie
 
@@ -20,19 +20,19 @@ cast-result c = widens {z = c.before.args.z} c.before.ranges.z
 sub-result : tie.Need-overflow-sub-result
 sub-result c =
     let z = c.before.args.z in
-    rw (widened {z = z} c.before.ranges.z, minus z) (minus-fits z c.before.ranges.z (below c))
+    rw (widened {z = z} c.before.ranges.z, minus z) (minus_fits z c.before.ranges.z (below c))
 
 cast-result-2 : tie.Need-overflow-cast-result-2
 cast-result-2 c =
     let z = c.before.args.z in
     let f = c.before.ranges.z in
-    rw (widened {z = z} f, minus z, to_z-of_z {w = w64} (minus-fits z f (below c))) (magnitude-fits z f (below c))
+    rw (widened {z = z} f, minus z, to_z-of_z {w = w64} (minus_fits z f (below c))) (magnitude_fits z f (below c))
 
 returns : tie.Need-returns
 returns c =
     let z = c.before.args.z in
     let f = c.before.ranges.z in
-    rw (widened {z = z} f, minus z, to_z-of_z {w = w64} (minus-fits z f (below c))) (magnitude-same z (below c))
+    rw (widened {z = z} f, minus z, to_z-of_z {w = w64} (minus_fits z f (below c))) (magnitude_same z (below c))
 
 cast-result-3 : tie.Need-overflow-cast-result-3
 cast-result-3 c =

@@ -8,16 +8,16 @@ use lib.ListN.{length}
 use Rattle.declare.specs.declared.Standing.{Standing}
 use Rattle.declare.specs.declared.Template.{Template}
 use Rattle.declare.specs.Steps.{carried}
-use Rattle.declare.specs.Templates.{templateOf, polarityOf}
+use Rattle.declare.specs.Templates.{template_of, polarity_of}
 use Rattle.declare.specs.Verdicts.{decided}
-use Rattle.declare.proofs.Carried.{carried-decided, carried_other}
+use Rattle.declare.proofs.Carried.{carried_decided, carried_other}
 use Rattle.judge.specs.Cells.{judged}
-use Rattle.judge.specs.Columns.{eventsIn}
-use Rattle.judge.specs.Flags.{flagAt}
+use Rattle.judge.specs.Columns.{events_in}
+use Rattle.judge.specs.Flags.{flag_at}
 use Rattle.judge.specs.Spans.{span_of}
-use Rattle.judge.proofs.Activations.{flag-tells}
-use Rattle.judge.proofs.Spans.{span-start}
-use Rattle.judge.proofs.Judged.{Known, idle-here, with-target, out-of-reach, in_reach}
+use Rattle.judge.proofs.Activations.{flag_tells}
+use Rattle.judge.proofs.Spans.{span_start}
+use Rattle.judge.proofs.Judged.{Known, idle_here, with_target, out_of_reach, in_reach_lem}
 use borrow.Author.Rules.{rules}
 use Rattle.judge.proofs.cells.judge.Statement.{statement}
 use Rattle.judge.proofs.cells.judge.Tie as tie
@@ -27,7 +27,7 @@ is-decided-requires c κs = search rules
 
 returns : tie.Need-returns
 returns c =
-    sym (carried-decided c.before.before.before.args.s _ (sym c.before.is-decided.ensures ∙ c.if1.true))
+    sym (carried_decided c.before.before.before.args.s _ (sym c.before.is-decided.ensures ∙ c.if1.true))
 
 shared-slice-read-if2 : tie.Need-shared-slice-read-if2
 shared-slice-read-if2 c = search rules
@@ -36,7 +36,7 @@ returns-2 : tie.Need-returns-2
 returns-2 c =
     let s = c.before.before.before.before.before in
     let other = sym c.before.before.before.is-decided.ensures ∙ c.before.before.if1.false in
-    idle-here s.requires (flag-tells s.requires ∙ not-true _ c.if2.true) s.args.running s.args.horizon ∙ sym (carried_other s.args.s _ other)
+    idle_here s.requires (flag_tells s.requires ∙ not-true _ c.if2.true) s.args.running s.args.horizon ∙ sym (carried_other s.args.s _ other)
 
 -- ---- after the scan
 
@@ -46,9 +46,9 @@ start c = c.before.before.before.before.before.before.before.before.before.befor
 abbrev standing : tie.After-nearest-suiting → Standing
 standing c =
     let a = (start c).args in
-    judged a.running a.rule (eventsIn a.times.now a.activities.now a.numbers.now (length a.row.now)) a.horizon (a.p + 1)
+    judged a.running a.rule (events_in a.times.now a.activities.now a.numbers.now (length a.row.now)) a.horizon (a.p + 1)
 
-template : (c : tie.After-nearest-suiting) → c.before.before.before.before.template-of.result ≡ templateOf (start c).args.rule.code
+template : (c : tie.After-nearest-suiting) → c.before.before.before.before.template-of.result ≡ template_of (start c).args.rule.code
 template c = c.before.before.before.before.template-of.ensures
 
 known : (c : tie.After-nearest-suiting) → let a = (start c).args in
@@ -57,14 +57,14 @@ known c =
     let s = start c in
     record {
       ready = s.pre;
-      active = flag-tells s.pre ∙ not-false _ c.before.before.before.before.before.if2.false;
+      active = flag_tells s.pre ∙ not-false _ c.before.before.before.before.before.if2.false;
       bound = c.before.before.bound_of.ensures;
-      spanned = c.before.before.before.Span-of.ensures ∙ ap (λ (t : Template). span_of t.reach (flagAt s.args.row.now) (s.args.p + 1) (length s.args.row.now)) (template c);
+      spanned = c.before.before.before.Span-of.ensures ∙ ap (λ (t : Template). span_of t.reach (flag_at s.args.row.now) (s.args.p + 1) (length s.args.row.now)) (template c);
       found = rw (← c.before.min.ensures) c.nearest-suiting.ensures.0;
     }
 
 -- what a target says under the rule's template
-says : (c : tie.After-nearest-suiting) (j : ℕ) → decided c.before.before.before.before.template-of.result.polarity j ≡ decided (polarityOf (start c).args.rule) j
+says : (c : tie.After-nearest-suiting) (j : ℕ) → decided c.before.before.before.before.template-of.result.polarity j ≡ decided (polarity_of (start c).args.rule) j
 says c j = ap (λ (t : Template). decided t.polarity j) (template c)
 
 -- the standing that was there is not decided
@@ -88,7 +88,7 @@ add-nearest-suiting : tie.Need-overflow-add-nearest-suiting
 add-nearest-suiting c = search rules
 
 nearest-suiting-requires : tie.Need-nearest-suiting-requires
-nearest-suiting-requires c κs = (span-start _ _ _ _ _ c.before.before.Span-of.ensures, omega arith)
+nearest-suiting-requires c κs = (span_start _ _ _ _ _ c.before.before.Span-of.ensures, omega arith)
 
 target-of-requires : tie.Need-target-of-requires
 target-of-requires c κs = search rules
@@ -101,7 +101,7 @@ returns-3 c =
     let f = c.before.before.before in
     let a = (start f).args in
     c.decide.ensures ∙ ap (decided _) c.before.target-of.ensures ∙ says f f.nearest-suiting.result
-    ∙ anew f (with-target (known f) a.running a.horizon c.before.before.if3.true)
+    ∙ anew f (with_target (known f) a.running a.horizon c.before.before.if3.true)
 
 decide-requires-2 : tie.Need-decide-requires-2
 decide-requires-2 c κs = search rules
@@ -110,7 +110,7 @@ returns-4 : tie.Need-returns-4
 returns-4 c =
     let f = c.before.before.before in
     let a = (start f).args in
-    c.decide2.ensures ∙ says f 0 ∙ anew f (out-of-reach (known f) a.running a.horizon (omega arith) c.before.if4.true)
+    c.decide2.ensures ∙ says f 0 ∙ anew f (out_of_reach (known f) a.running a.horizon (omega arith) c.before.if4.true)
 
 can-suit-requires : tie.Need-can-suit-requires
 can-suit-requires c κs = search rules
@@ -119,7 +119,7 @@ returns-5 : tie.Need-returns-5
 returns-5 c =
     let f = c.before.before.before.before in
     let a = (start f).args in
-    anew f (in_reach (known f) a.running a.horizon (omega arith) c.before.before.if4.false ∙ rw (← c.before.can-suit.ensures, c.if5.true))
+    anew f (in_reach_lem (known f) a.running a.horizon (omega arith) c.before.before.if4.false ∙ rw (← c.before.can-suit.ensures, c.if5.true))
 
 decide-requires-3 : tie.Need-decide-requires-3
 decide-requires-3 c κs = search rules
@@ -129,7 +129,7 @@ returns-6 c =
     let f = c.before.before.before.before.before in
     let a = (start f).args in
     c.decide3.ensures ∙ says f 0
-    ∙ anew f (in_reach (known f) a.running a.horizon (omega arith) c.before.before.before.if4.false ∙ rw (← c.before.before.can-suit.ensures, c.before.if5.false))
+    ∙ anew f (in_reach_lem (known f) a.running a.horizon (omega arith) c.before.before.before.if4.false ∙ rw (← c.before.before.can-suit.ensures, c.before.if5.false))
 
 pub judge-spec : {M : Type 1} → statement M
 judge-spec =

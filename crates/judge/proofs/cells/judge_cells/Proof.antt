@@ -10,32 +10,32 @@ use Prim.Native.Nat.{ℕ, ◌+◌, ◌-◌, ◌*◌, ◌≤◌, ◌<◌}
 use native.Mathlib.Omega.{arith}
 use lib.ListN.{length, get_or, take}
 use Rattle.declare.specs.declared.Standing.{Standing}
-use Rattle.declare.specs.Limits.{mostRules, mostEvents}
-use Rattle.declare.specs.Rules.{noRule, noCondition, noComparison}
-use Rattle.declare.specs.Events.{noEvent}
+use Rattle.declare.specs.Limits.{most_rules, most_events}
+use Rattle.declare.specs.Rules.{no_rule, no_condition, no_comparison}
+use Rattle.declare.specs.Events.{no_event}
 use Rattle.declare.proofs.Booleans.{neither}
-use Rattle.declare.proofs.Sweeps.{Swept, swept_none, swept-again, swept_kept, swept-skip, swept_all}
+use Rattle.declare.proofs.Sweeps.{Swept, swept_none, swept_again, swept_kept, swept_skip, swept_all}
 use Rattle.standings.specs.declared.Cell.{Cell}
-use Rattle.standings.specs.Places.{places, idleCell, changedCell, changed}
+use Rattle.standings.specs.Places.{places, idle_cell, changed_cell, changed}
 use Rattle.standings.specs.declared.totals.Totals.{Totals}
-use Rattle.standings.specs.Totals.{rowTotals}
-use Rattle.standings.proofs.Places.{row-rest, rules-rest}
-use Rattle.standings.proofs.Counting.{Counting, counting-none, counting-rest, counting-idle, counting-set, counting-all}
-use Rattle.judge.specs.Cells.{judgedAt, judgedCells}
-use Rattle.judge.proofs.ByColumn.{shown-activities}
-use Rattle.declare.proofs.Carried.{only-idle}
-use Rattle.judge.proofs.Rows.{Placed, ready_at, judged-cell, idle-stays, cell-unused, within-arrays}
+use Rattle.standings.specs.Totals.{row_totals}
+use Rattle.standings.proofs.Places.{row_rest, rules_rest}
+use Rattle.standings.proofs.Counting.{Counting, counting_none, counting_rest, counting_idle, counting_set, counting_all}
+use Rattle.judge.specs.Cells.{judged_at, judged_cells}
+use Rattle.judge.proofs.ByColumn.{shown_activities}
+use Rattle.declare.proofs.Carried.{only_idle}
+use Rattle.judge.proofs.Rows.{Placed, ready_at, judged_cell, idle_stays, cell_unused, within_arrays}
 use Rattle.judge.proofs.cells.judge_cells.Statement.{statement}
 use Rattle.judge.proofs.cells.judge_cells.Tie as tie
 
 abbrev invariant-loop : tie.invariant-loop
 invariant-loop running n horizon table events cells₀ totals₀ rows width columns flags end j₀ cells totals j =
-    (j ≤ rows * mostEvents)
-    × Swept (changedCell (judgedAt running table (take n events) horizon) rows width) cells₀ cells j
+    (j ≤ rows * most_events)
+    × Swept (changed_cell (judged_at running table (take n events) horizon) rows width) cells₀ cells j
     × Counting width cells totals₀ totals j
 
 abbrev decreases-loop : tie.decreases-loop
-decreases-loop running n horizon table events cells₀ totals₀ rows width columns flags end j₀ cells totals j = rows * mostEvents - j
+decreases-loop running n horizon table events cells₀ totals₀ rows width columns flags end j₀ cells totals j = rows * most_events - j
 
 min-requires : tie.Need-min-requires invariant-loop decreases-loop
 min-requires c κs = search rules
@@ -50,10 +50,10 @@ flags-of-requires : tie.Need-flags-of-requires invariant-loop decreases-loop
 flags-of-requires c κs =
     let rows = c.before.before.before.before.min in
     let width = c.before.before.before.min2 in
-    (omega (arith, rows.ensures), omega (arith, width.ensures), shown-activities c.before.before.columns_of.ensures)
+    (omega (arith, rows.ensures), omega (arith, width.ensures), shown_activities c.before.before.columns_of.ensures)
 
 -- one slot a rule
-slots : (c : tie.Start invariant-loop decreases-loop) → length c.args.t7 ≡ mostRules
+slots : (c : tie.Start invariant-loop decreases-loop) → length c.args.t7 ≡ most_rules
 slots c = search (rules, c.well-formed.1.1.1.1.1.1.0)
 
 mul-end : tie.Need-overflow-mul-end invariant-loop decreases-loop
@@ -63,7 +63,7 @@ loop-holds : tie.Need-loop-init invariant-loop decreases-loop
 loop-holds c =
     let start = c.before.before.before.before.before.before in
     let full : length start.args.t6 ≡ places = search (rules, start.well-formed.1.1.1.1.1.0) in
-    (omega arith, swept_none _ _, counting-none _ _ _ full (slots start))
+    (omega arith, swept_none _ _, counting_none _ _ _ full (slots start))
 
 sub-j : tie.Need-overflow-sub-j invariant-loop decreases-loop
 sub-j c = search rules
@@ -81,10 +81,10 @@ loop-again c =
     let l = at.loop in
     let rows = at.before.before.before.before.before.before.min in
     let width = at.before.before.before.before.before.min2 in
-    let few : width.result ≤ mostEvents = omega (arith, width.ensures) in (
+    let few : width.result ≤ most_events = omega (arith, width.ensures) in (
       omega arith,
-      swept-skip l.invariant.1 _ (omega arith) (λ i b d x. cell-unused _ _ _ i x (row-rest rows.result width.result l.j i (omega arith) b d)),
-      counting-rest l.invariant.2 few (omega arith) _ (omega arith) (omega arith),
+      swept_skip l.invariant.1 _ (omega arith) (λ i b d x. cell_unused _ _ _ i x (row_rest rows.result width.result l.j i (omega arith) b d)),
+      counting_rest l.invariant.2 few (omega arith) _ (omega arith) (omega arith),
     )
 
 -- a place in use
@@ -147,7 +147,7 @@ part-judge-end : tie.Need-slice-bounds-judge-end invariant-loop decreases-loop
 part-judge-end c = search rules
 
 judge-requires : tie.Need-judge-requires invariant-loop decreases-loop
-unfolding noRule noCondition noComparison noEvent
+unfolding no_rule no_condition no_comparison no_event
 judge-requires c κs = ready_at (placed c.before.before.before.before.before.before.before.before.before.before.before)
 
 mul-cells : tie.Need-overflow-mul-cells invariant-loop decreases-loop
@@ -178,35 +178,35 @@ loop-less-2 : tie.Need-loop-smaller-2 invariant-loop decreases-loop
 loop-less-2 c = search rules
 
 loop-again-2 : tie.Need-loop-preserved-2 invariant-loop decreases-loop
-unfolding noRule noCondition noComparison noEvent
+unfolding no_rule no_condition no_comparison no_event
 loop-again-2 c =
     let here = c.before.before.before in
     let l = here.before.before.loop in
     let start = here.before.before.before.before.before.before.before.before.before in
     let a = start.args in
     let full : length a.t6 ≡ places = search (rules, start.well-formed.1.1.1.1.1.0) in
-    let before = get_or l.cells l.j idleCell in
+    let before = get_or l.cells l.j idle_cell in
     let rows = here.before.before.before.before.before.before.before.before.min in
     let low : l.j < places = omega (arith, rows.ensures) in
     let width = here.before.before.before.before.before.before.before.min2 in
-    let few : width.result ≤ mostEvents = omega (arith, width.ensures) in
-    let f : ℕ → Cell → Cell = changedCell (judgedAt a.running a.t2 (take a.n a.t3) a.horizon) rows.result width.result in
+    let few : width.result ≤ most_events = omega (arith, width.ensures) in
+    let f : ℕ → Cell → Cell = changed_cell (judged_at a.running a.t2 (take a.n a.t3) a.horizon) rows.result width.result in
     ⊎_elim
     (λ w. (
       omega arith,
-      subst (λ (u : List Cell). Swept f a.t6 u (l.j + 1)) (sym w.12) (swept-again l.invariant.1 idleCell (omega arith) (judged-cell (placed here) a.running a.horizon before w.9.ensures)),
-      subst₂ (λ (u : List Cell) (v : List Totals). Counting width.result u a.t7 v (l.j + 1)) (sym w.12) (sym w.13) (counting-set l.invariant.2 few low (omega arith) _ w.11.ensures),
+      subst (λ (u : List Cell). Swept f a.t6 u (l.j + 1)) (sym w.12) (swept_again l.invariant.1 idle_cell (omega arith) (judged_cell (placed here) a.running a.horizon before w.9.ensures)),
+      subst₂ (λ (u : List Cell) (v : List Totals). Counting width.result u a.t7 v (l.j + 1)) (sym w.12) (sym w.13) (counting_set l.invariant.2 few low (omega arith) _ w.11.ensures),
     ))
     (λ w. let none = neither _ _ w.0.left in
-    let idle = only-idle _ (sym c.before.is-idle.ensures ∙ not-false _ none.1) in (
+    let idle = only_idle _ (sym c.before.is-idle.ensures ∙ not-false _ none.1) in (
       omega arith,
-      subst (λ (u : List Cell). Swept f a.t6 u (l.j + 1)) (sym w.1) (swept_kept l.invariant.1 idleCell (omega arith) (idle-stays (placed here) a.running a.horizon before none.0 idle)),
-      subst₂ (λ (u : List Cell) (v : List Totals). Counting width.result u a.t7 v (l.j + 1)) (sym w.1) (sym w.2) (counting-idle l.invariant.2 few low idle),
+      subst (λ (u : List Cell). Swept f a.t6 u (l.j + 1)) (sym w.1) (swept_kept l.invariant.1 idle_cell (omega arith) (idle_stays (placed here) a.running a.horizon before none.0 idle)),
+      subst₂ (λ (u : List Cell) (v : List Totals). Counting width.result u a.t7 v (l.j + 1)) (sym w.1) (sym w.2) (counting_idle l.invariant.2 few low idle),
     ))
     c.if2.branch
 
 returns : tie.Need-returns invariant-loop decreases-loop
-unfolding judgedCells changed
+unfolding judged_cells changed
 returns c =
     let at = c.before in
     let l = at.loop in
@@ -215,14 +215,14 @@ returns c =
     let start = at.before.before.before.before.before.before.before in
     let a = start.args in
     let full : length a.t6 ≡ places = search (rules, start.well-formed.1.1.1.1.1.0) in
-    let few : rows.result ≤ mostRules = omega (arith, rows.ensures) in
-    let f : ℕ → ℕ → Standing → Standing = judgedAt a.running a.t2 (take a.n a.t3) a.horizon in
-    let most : width.result ≤ mostEvents = omega (arith, width.ensures) in (
-      swept_all (swept-skip l.invariant.1 places (omega arith) (λ i b d x. cell-unused _ _ _ i x (rules-rest rows.result width.result i (omega arith)))) (omega arith)
+    let few : rows.result ≤ most_rules = omega (arith, rows.ensures) in
+    let f : ℕ → ℕ → Standing → Standing = judged_at a.running a.t2 (take a.n a.t3) a.horizon in
+    let most : width.result ≤ most_events = omega (arith, width.ensures) in (
+      swept_all (swept_skip l.invariant.1 places (omega arith) (λ i b d x. cell_unused _ _ _ i x (rules_rest rows.result width.result i (omega arith)))) (omega arith)
           ∙ ap₂ (λ (x y : ℕ). changed f x y a.t6) rows.ensures width.ensures
-          ∙ within-arrays f a.t2.count a.n a.t6 full,
-      counting-all l.invariant.2 most a.t2.count (slots start) (omega (arith, rows.ensures))
-          ∙ ap (λ (n : ℕ). rowTotals a.t2.count n l.cells a.t7) width.ensures,
+          ∙ within_arrays f a.t2.count a.n a.t6 full,
+      counting_all l.invariant.2 most a.t2.count (slots start) (omega (arith, rows.ensures))
+          ∙ ap (λ (n : ℕ). row_totals a.t2.count n l.cells a.t7) width.ensures,
     )
 
 pub judge-cells-spec : {M : Type 1} → statement M

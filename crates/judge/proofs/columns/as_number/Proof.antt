@@ -2,7 +2,7 @@
 use borrow.Author.Rules.{rules, sfits_of}
 use Rattle.declare.specs.Events.{greatest}
 use Rattle.declare.proofs.Casts.{widens, widened}
-use Rattle.judge.proofs.ByColumn.{not-past}
+use Rattle.judge.proofs.ByColumn.{not_past}
 use Rattle.judge.proofs.columns.as_number.Statement.{statement}
 use Rattle.judge.proofs.columns.as_number.Tie as tie
 
@@ -21,7 +21,7 @@ returns c = rw c.enum_told.given.1
 
 returns-2 : tie.Need-returns-2
 returns-2 c = let f = sfits_of c.known-told.given.0.1 in
-    rw (widened {z = c.before.x.given.0.0} f, c.before.x.given.1, not-past c.before.x.given.0.0 f)
+    rw (widened {z = c.before.x.given.0.0} f, c.before.x.given.1, not_past c.before.x.given.0.0 f)
 
 pub as-number-spec : {M : Type 1} → statement M
 as-number-spec = tie.close (tie.spec enum_told enum-known-x cast-result returns returns-2)

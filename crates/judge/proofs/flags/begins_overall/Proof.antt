@@ -12,7 +12,7 @@ is-overall-requires : tie.Need-is-overall-requires
 is-overall-requires c κs = search rules
 
 returns-2 : tie.Need-returns-2
-returns-2 c = rw (eq-eqb _ _ c.before.if1.false) c.is-overall.ensures
+returns-2 c = rw (eq-eqb _ _ c.before.if1.false) c.is_overall_lem.ensures
 
 pub begins-overall-spec : {M : Type 1} → statement M
 begins-overall-spec = tie.close (tie.spec returns is-overall-requires returns-2)

@@ -1,5 +1,5 @@
 -- What can suit the rule bound to the first time can occur.
-use Rattle.condition.proofs.Laws.{bound-can-occur}
+use Rattle.condition.proofs.Laws.{bound_can_occur}
 use borrow.Author.Rules.{rules}
 use Rattle.judge.proofs.overall.can_occur.Statement.{statement}
 use Rattle.judge.proofs.overall.can_occur.Tie as tie
@@ -15,7 +15,7 @@ can-suit-requires c κs = search rules
 
 returns : tie.Need-returns
 returns c =
-    rw (c.can-suit.ensures, c.before.cycle-bound.ensures, c.before.before.first-time.ensures) (bound-can-occur _ _ _)
+    rw (c.can-suit.ensures, c.before.cycle-bound.ensures, c.before.before.first_time_lem.ensures) (bound_can_occur _ _ _)
 
 pub can-occur-spec : {M : Type 1} → statement M
 can-occur-spec =

@@ -1,5 +1,5 @@
 -- By cases, as the definition has them.
-use Rattle.judge.proofs.Occurrences.{earlier-first, earlier-second}
+use Rattle.judge.proofs.Occurrences.{earlier_first, earlier_second}
 use borrow.Author.Rules.{rules}
 use Rattle.judge.proofs.overall.earlier.Statement.{statement}
 use Rattle.judge.proofs.overall.earlier.Tie as tie
@@ -8,10 +8,10 @@ returns : tie.Need-returns
 returns c = search rules
 
 returns-2 : tie.Need-returns-2
-returns-2 c = earlier-first _ _ c.before.if1.false c.if2.true
+returns-2 c = earlier_first _ _ c.before.if1.false c.if2.true
 
 returns-3 : tie.Need-returns-3
-returns-3 c = earlier-second _ _ c.before.if1.false c.if2.false
+returns-3 c = earlier_second _ _ c.before.if1.false c.if2.false
 
 pub earlier-spec : {M : Type 1} → statement M
 earlier-spec = tie.close (tie.spec returns returns-2 returns-3)

@@ -6,11 +6,11 @@ use Prim.Native.Nat.{suc, ◌-◌, ◌≤◌, zero-le}
 use native.Mathlib.Omega.{arith}
 use native.Mathlib.Numerals.{add-one}
 use lib.ListN.{length, take}
-use Rattle.declare.specs.Limits.{mostEvents}
-use Rattle.declare.specs.Lists.{firstUpTo}
-use Rattle.declare.specs.Events.{noEvent, firstTime}
-use Rattle.declare.specs.Verdicts.{occursAt}
-use Rattle.judge.proofs.Occurrences.{first-begin, occurs-other, occurs-same, occurs-here, not_yet}
+use Rattle.declare.specs.Limits.{most_events}
+use Rattle.declare.specs.Lists.{first_up_to}
+use Rattle.declare.specs.Events.{no_event, first_time}
+use Rattle.declare.specs.Verdicts.{occurs_at}
+use Rattle.judge.proofs.Occurrences.{first_begin, occurs_other, occurs_same, occurs_here, not_yet}
 use borrow.Author.Rules.{rules}
 use borrow.Author.Tests.{eq-eqb, ne_eqb}
 use Rattle.judge.proofs.overall.first_occurrence.Statement.{statement}
@@ -18,7 +18,7 @@ use Rattle.judge.proofs.overall.first_occurrence.Tie as tie
 
 abbrev invariant-loop : tie.invariant-loop
 invariant-loop rule activity n events first p₀ p =
-    (p ≤ n) × (n ≤ length events) × (first ≡ firstTime 0 (take n events)) × (firstUpTo (occursAt rule (take n events) activity) p ≡ 0)
+    (p ≤ n) × (n ≤ length events) × (first ≡ first_time 0 (take n events)) × (first_up_to (occurs_at rule (take n events) activity) p ≡ 0)
 
 abbrev decreases-loop : tie.decreases-loop
 decreases-loop rule activity n events first p₀ p = n - p
@@ -29,8 +29,8 @@ first-time-requires c κs = search rules
 loop-holds : tie.Need-loop-init invariant-loop decreases-loop
 loop-holds c =
     let a = c.before.args in
-    let size : length a.t3 ≡ mostEvents = search rules in
-    (omega arith, omega arith, c.first-time.ensures, first-begin _)
+    let size : length a.t3 ≡ most_events = search rules in
+    (omega arith, omega arith, c.first_time_lem.ensures, first_begin _)
 
 mul-if1 : tie.Need-overflow-mul-if1 invariant-loop decreases-loop
 mul-if1 c = search rules
@@ -50,12 +50,12 @@ meets-inside-requires c κs = search rules
 -- an event of the activity is one exactly if the function says so
 said : (c : tie.After-meets-inside invariant-loop decreases-loop) → let l = c.before.before.before.before.loop in
     let a = c.before.before.before.before.before.before.args in
-    occursAt a.rule (take a.n a.t3) a.activity (suc l.p) ≡ c.meets-inside.result
-unfolding noEvent
+    occurs_at a.rule (take a.n a.t3) a.activity (suc l.p) ≡ c.meets-inside.result
+unfolding no_event
 said c =
     let l = c.before.before.before.before.loop in
     let a = c.before.before.before.before.before.before.args in
-    occurs-same a.rule a.activity a.n a.t3 l.invariant.1 l.p (omega arith) l.invariant.2 (eq-eqb _ _ c.before.before.if1.true) ∙ sym c.meets-inside.ensures
+    occurs_same a.rule a.activity a.n a.t3 l.invariant.1 l.p (omega arith) l.invariant.2 (eq-eqb _ _ c.before.before.if1.true) ∙ sym c.meets-inside.ensures
 
 add-result : tie.Need-overflow-add-result invariant-loop decreases-loop
 add-result c = search rules
@@ -64,7 +64,7 @@ returns : tie.Need-returns invariant-loop decreases-loop
 returns c =
     let l = c.before.before.before.before.before.loop in
     let a = c.before.before.before.before.before.before.before.args in
-    rw add-one (occurs-here a.rule a.activity a.n a.t3 l.invariant.1 l.p (omega arith) l.invariant.3 (said c.before ∙ c.if2.true), omega arith)
+    rw add-one (occurs_here a.rule a.activity a.n a.t3 l.invariant.1 l.p (omega arith) l.invariant.3 (said c.before ∙ c.if2.true), omega arith)
 
 add-p : tie.Need-overflow-add-p invariant-loop decreases-loop
 add-p c = search rules
@@ -75,14 +75,14 @@ loop-less c = search rules
 -- an event that is passed is none
 passed : (c : tie.Joined1 invariant-loop decreases-loop) → let l = c.before.before.loop in
     let a = c.before.before.before.before.args in
-    occursAt a.rule (take a.n a.t3) a.activity (suc l.p) ≡ false
-unfolding noEvent
+    occurs_at a.rule (take a.n a.t3) a.activity (suc l.p) ≡ false
+unfolding no_event
 passed c =
     let l = c.before.before.loop in
     let a = c.before.before.before.before.args in
     ⊎_elim
     (λ w. said record { before = record { before = record { before = c.before; if1 = w.0 }; e = w.1 }; meets-inside = w.2 } ∙ w.3.left)
-    (λ w. occurs-other a.rule a.activity a.n a.t3 l.invariant.1 l.p (omega arith) (ne_eqb _ _ w.left))
+    (λ w. occurs_other a.rule a.activity a.n a.t3 l.invariant.1 l.p (omega arith) (ne_eqb _ _ w.left))
     c.if1.branch
 
 loop-again : tie.Need-loop-preserved invariant-loop decreases-loop
@@ -95,7 +95,7 @@ returns-2 : tie.Need-returns-2 invariant-loop decreases-loop
 returns-2 c =
     let l = c.before.loop in
     let whole : l.p ≡ c.before.before.before.args.n = omega arith in
-    (sym (ap (firstUpTo _) (sym whole) ∙ l.invariant.3), zero-le)
+    (sym (ap (first_up_to _) (sym whole) ∙ l.invariant.3), zero-le)
 
 pub first-occurrence-spec : {M : Type 1} → statement M
 first-occurrence-spec =

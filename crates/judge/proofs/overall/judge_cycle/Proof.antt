@@ -7,12 +7,12 @@ use lib.ListN.{length, take}
 use lib.Seq.{length-take-le}
 use lib.Dec.{ltb}
 use Rattle.declare.specs.declared.Overall.{Overall}
-use Rattle.declare.specs.Limits.{mostEvents}
-use Rattle.declare.specs.Lists.{firstUpTo}
-use Rattle.declare.specs.Overall.{overallOf, formula, settled}
-use Rattle.declare.specs.Verdicts.{fulfilledIf}
-use Rattle.judge.specs.Occurrences.{earlier, targetOccurrence}
-use Rattle.judge.proofs.Occurrences.{Firsts, earlier-within, shut, opened, past}
+use Rattle.declare.specs.Limits.{most_events}
+use Rattle.declare.specs.Lists.{first_up_to}
+use Rattle.declare.specs.Overall.{overall_of, formula, settled}
+use Rattle.declare.specs.Verdicts.{fulfilled_if}
+use Rattle.judge.specs.Occurrences.{earlier, target_occurrence}
+use Rattle.judge.proofs.Occurrences.{Firsts, earlier_within, shut, opened, past}
 use borrow.Author.Rules.{rules}
 use Rattle.judge.proofs.overall.judge_cycle.Statement.{statement}
 use Rattle.judge.proofs.overall.judge_cycle.Tie as tie
@@ -37,9 +37,9 @@ target-of-requires c κs =
     let a = c.before.before.before.first-occurrence in
     let b = c.before.before.target-occurrence in
     let few = c.before.before.before.before.before.requires.0 in
-    let a-few : a.result ≤ mostEvents = omega (arith, a.ensures.1) in
-    let b-few : b.result ≤ mostEvents = omega (arith, b.ensures.1) in
-    rw c.earlier.ensures (earlier-within a.result b.result mostEvents a-few b-few)
+    let a-few : a.result ≤ most_events = omega (arith, a.ensures.1) in
+    let b-few : b.result ≤ most_events = omega (arith, b.ensures.1) in
+    rw c.earlier.ensures (earlier_within a.result b.result most_events a-few b-few)
 
 fulfilled-if-requires : tie.Need-fulfilled-if-requires
 fulfilled-if-requires c κs = search rules
@@ -65,25 +65,25 @@ firsts : (c : tie.After-fulfilled-if) → Firsts (start c).args.rule (take (star
 firsts c =
     let a = (start c).args in
     let room = (start c).requires.0 in
-    let full : length a.events ≡ mostEvents = search rules in
+    let full : length a.events ≡ most_events = search rules in
     let whole : a.n ≡ length (take a.n a.events) = sym (length-take-le a.n a.events (omega arith)) in
     record {
-      activation = c.before.before.before.before.before.first-occurrence.ensures.0 ∙ ap (firstUpTo _) whole;
-      target = c.before.before.before.before.target-occurrence.ensures.0 ∙ ap (targetOccurrence _ _) whole;
+      activation = c.before.before.before.before.before.first-occurrence.ensures.0 ∙ ap (first_up_to _) whole;
+      target = c.before.before.before.before.target-occurrence.ensures.0 ∙ ap (target_occurrence _ _) whole;
     }
 
-kind-is : (c : tie.After-fulfilled-if) → c.before.before.before.before.before.before.overall-of.result ≡ overallOf (start c).args.rule.code
-kind-is c = c.before.before.before.before.before.before.overall-of.ensures
+kind_is : (c : tie.After-fulfilled-if) → c.before.before.before.before.before.before.overall-of.result ≡ overall_of (start c).args.rule.code
+kind_is c = c.before.before.before.before.before.before.overall-of.ensures
 
-stands : (c : tie.After-fulfilled-if) → c.fulfilled-if.result ≡ fulfilledIf (formula (overallOf (start c).args.rule.code) (ltb 0 (activation c)) (ltb 0 (target c))) (earlier (activation c) (target c))
+stands : (c : tie.After-fulfilled-if) → c.fulfilled-if.result ≡ fulfilled_if (formula (overall_of (start c).args.rule.code) (ltb 0 (activation c)) (ltb 0 (target c))) (earlier (activation c) (target c))
 stands c =
     c.fulfilled-if.ensures
-    ∙ ap₂ fulfilledIf (c.before.before.before.formula.ensures ∙ ap (λ (o : Overall). formula o (ltb 0 (activation c)) (ltb 0 (target c))) (kind-is c)) (c.before.target-of.ensures ∙ c.before.before.earlier.ensures)
+    ∙ ap₂ fulfilled_if (c.before.before.before.formula.ensures ∙ ap (λ (o : Overall). formula o (ltb 0 (activation c)) (ltb 0 (target c))) (kind_is c)) (c.before.target-of.ensures ∙ c.before.before.earlier.ensures)
 
 -- finished, or settled
-halts : (c : tie.After-settled) {v : Bool} → (not (start c.before).args.running || c.settled.result) ≡ v → (not (start c.before).args.running || settled (overallOf (start c.before).args.rule.code) (ltb 0 (activation c.before)) (ltb 0 (target c.before))) ≡ v
+halts : (c : tie.After-settled) {v : Bool} → (not (start c.before).args.running || c.settled.result) ≡ v → (not (start c.before).args.running || settled (overall_of (start c.before).args.rule.code) (ltb 0 (activation c.before)) (ltb 0 (target c.before))) ≡ v
 halts c e =
-    ap (λ (t : Bool). not (start c.before).args.running || t) (sym (c.settled.ensures ∙ ap (λ (o : Overall). settled o (ltb 0 (activation c.before)) (ltb 0 (target c.before))) (kind-is c.before))) ∙ e
+    ap (λ (t : Bool). not (start c.before).args.running || t) (sym (c.settled.ensures ∙ ap (λ (o : Overall). settled o (ltb 0 (activation c.before)) (ltb 0 (target c.before))) (kind_is c.before))) ∙ e
 
 returns : tie.Need-returns
 returns c =

@@ -10,20 +10,20 @@ use borrow.Author.Rules.{rules}
 use borrow.Author.Tests.{not-true}
 use lib.ListN.{length, take}
 use Rattle.declare.specs.declared.Event.{Event}
-use Rattle.declare.specs.Limits.{mostRules, mostEvents}
-use Rattle.declare.specs.Rules.{noComparison, noCondition, noRule, isOverallRule}
+use Rattle.declare.specs.Limits.{most_rules, most_events}
+use Rattle.declare.specs.Rules.{no_comparison, no_condition, no_rule, is_overall_rule}
 use Rattle.declare.proofs.Booleans.{and_left, and₂}
-use Rattle.declare.proofs.Sweeps.{Swept, swept_none, swept-again, swept_kept, swept-skip, swept_all}
+use Rattle.declare.proofs.Sweeps.{Swept, swept_none, swept_again, swept_kept, swept_skip, swept_all}
 use Rattle.standings.specs.declared.Cell.{Cell}
-use Rattle.standings.specs.Places.{idleCell, overallCell, changedOverall}
-use Rattle.judge.specs.Cells.{judgedAt, judgedOverall}
-use Rattle.judge.proofs.Occurrences.{taken-within, cell-judged, cell_stays, cell-past}
+use Rattle.standings.specs.Places.{idle_cell, overall_cell, changed_overall}
+use Rattle.judge.specs.Cells.{judged_at, judged_overall}
+use Rattle.judge.proofs.Occurrences.{taken_within, cell_judged, cell_stays, cell_past}
 use Rattle.judge.proofs.overall.judge_overall.Statement.{statement}
 use Rattle.judge.proofs.overall.judge_overall.Tie as tie
 
 abbrev invariant-loop : tie.invariant-loop
 invariant-loop running events n horizon table cells₀ rows width k₀ cells k =
-    (k ≤ rows) × Swept (overallCell (isOverallRule table) (judgedAt running table (take width events) horizon)) cells₀ cells k
+    (k ≤ rows) × Swept (overall_cell (is_overall_rule table) (judged_at running table (take width events) horizon)) cells₀ cells k
 
 abbrev decreases-loop : tie.decreases-loop
 decreases-loop running events n horizon table cells₀ rows width k₀ cells k = rows - k
@@ -56,10 +56,10 @@ is-decided-requires : tie.Need-is-decided-requires invariant-loop decreases-loop
 is-decided-requires c κs = search rules
 
 judge-cycle-requires : tie.Need-judge-cycle-requires invariant-loop decreases-loop
-unfolding noRule noCondition noComparison
+unfolding no_rule no_condition no_comparison
 judge-cycle-requires c κs =
     let b = c.before.before.before.before.before.before.before in
-    (omega (arith, b.min2.ensures), sym c.before.before.is-overall.ensures ∙ and_left _ _ c.if1.true)
+    (omega (arith, b.min2.ensures), sym c.before.before.is_overall_lem.ensures ∙ and_left _ _ c.if1.true)
 
 mul-cells : tie.Need-overflow-mul-cells invariant-loop decreases-loop
 mul-cells c = search rules
@@ -74,37 +74,37 @@ loop-less : tie.Need-loop-smaller invariant-loop decreases-loop
 loop-less c = search rules
 
 loop-again : tie.Need-loop-preserved invariant-loop decreases-loop
-unfolding noRule noCondition noComparison
+unfolding no_rule no_condition no_comparison
 loop-again c =
     let l = c.before.before.before.before.before.before.loop in
     let start = c.before.before.before.before.before.before.before.before.before in
     let a = start.args in
     let rows = c.before.before.before.before.before.before.before.before.min in
     let low : l.k < a.t2.count = omega (arith, rows.ensures) in
-    let full : length a.t6 ≡ mostRules = search rules in
+    let full : length a.t6 ≡ most_rules = search rules in
     let width = c.before.before.before.before.before.before.before.min2.result in
-    let f : ℕ → Cell → Cell = overallCell (isOverallRule a.t2) (judgedAt a.running a.t2 (take width a.events) a.horizon) in
-    let of-cycle = c.before.before.is-overall.ensures in
+    let f : ℕ → Cell → Cell = overall_cell (is_overall_rule a.t2) (judged_at a.running a.t2 (take width a.events) a.horizon) in
+    let of-cycle = c.before.before.is_overall_lem.ensures in
     let decided = c.before.is-decided.ensures in (
       omega arith,
       ⊎_elim
           (λ w. let p = and₂ w.0.taken in
-          subst (λ (u : List Cell). Swept f a.t6 u (l.k + 1)) (sym w.2) (swept-again l.invariant.1 idleCell (omega arith) (cell-judged a.t2 a.running _ a.horizon l.k _ low (sym of-cycle ∙ p.0) (sym decided ∙ not-true _ p.1) w.1.ensures)))
-          (λ w. subst (λ (u : List Cell). Swept f a.t6 u (l.k + 1)) (sym w.1) (swept_kept l.invariant.1 idleCell (omega arith) (cell_stays a.t2 a.running _ a.horizon l.k _ low (ap₂ (λ x y. x && not y) (sym of-cycle) (sym decided) ∙ w.0.left))))
+          subst (λ (u : List Cell). Swept f a.t6 u (l.k + 1)) (sym w.2) (swept_again l.invariant.1 idle_cell (omega arith) (cell_judged a.t2 a.running _ a.horizon l.k _ low (sym of-cycle ∙ p.0) (sym decided ∙ not-true _ p.1) w.1.ensures)))
+          (λ w. subst (λ (u : List Cell). Swept f a.t6 u (l.k + 1)) (sym w.1) (swept_kept l.invariant.1 idle_cell (omega arith) (cell_stays a.t2 a.running _ a.horizon l.k _ low (ap₂ (λ x y. x && not y) (sym of-cycle) (sym decided) ∙ w.0.left))))
           c.if1.branch,
     )
 
 returns : tie.Need-returns invariant-loop decreases-loop
-unfolding judgedOverall changedOverall
+unfolding judged_overall changed_overall
 returns c =
     let l = c.before.loop in
     let a = c.before.before.before.before.args in
     let rows = c.before.before.before.min in
     let width = c.before.before.min2 in
-    let full : length a.t6 ≡ mostRules = search rules in
-    let slots : length a.events ≡ mostEvents = search rules in
-    swept_all (swept-skip l.invariant.1 mostRules (omega (arith, rows.ensures)) (λ i b d x. cell-past a.t2 a.running _ a.horizon i x (omega (arith, rows.ensures)))) (omega arith)
-    ∙ ap (λ (es : List Event). changedOverall (isOverallRule a.t2) (judgedAt a.running a.t2 es a.horizon) a.t6) (ap (λ (n : ℕ). take n a.events) width.ensures ∙ taken-within a.n a.events slots)
+    let full : length a.t6 ≡ most_rules = search rules in
+    let slots : length a.events ≡ most_events = search rules in
+    swept_all (swept_skip l.invariant.1 most_rules (omega (arith, rows.ensures)) (λ i b d x. cell_past a.t2 a.running _ a.horizon i x (omega (arith, rows.ensures)))) (omega arith)
+    ∙ ap (λ (es : List Event). changed_overall (is_overall_rule a.t2) (judged_at a.running a.t2 es a.horizon) a.t6) (ap (λ (n : ℕ). take n a.events) width.ensures ∙ taken_within a.n a.events slots)
 
 pub judge-overall-spec : {M : Type 1} → statement M
 judge-overall-spec =

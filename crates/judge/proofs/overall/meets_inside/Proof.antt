@@ -3,7 +3,7 @@ use mathlib.Core.Path.{sym, ◌∙◌}
 use mathlib.Core.Bool.{and-true, and-false}
 use borrow.Author.Tests.{not-true, not-false}
 use Rattle.declare.specs.Conditions.{met}
-use Rattle.condition.proofs.Laws.{met-bound}
+use Rattle.condition.proofs.Laws.{met_bound}
 use borrow.Author.Rules.{rules}
 use Rattle.judge.proofs.overall.meets_inside.Statement.{statement}
 use Rattle.judge.proofs.overall.meets_inside.Tie as tie
@@ -30,7 +30,7 @@ returns-2 : tie.Need-returns-2
 returns-2 c =
     let inside = sym c.before.before.before.within.ensures ∙ not-false _ c.before.before.if1.false in
     let a = c.before.before.before.before.before.args in
-    let holds = met-bound a.rule.condition a.e a.e in
+    let holds = met_bound a.rule.condition a.e a.e in
     rw (← c.before.before.before.before.between.ensures, inside, c.all_pass.ensures, c.before.tests-for.ensures, holds) (sym (and-true _))
 
 pub meets-inside-spec : {M : Type 1} → statement M

@@ -1,10 +1,10 @@
 -- The activity, then the window, then the tests.
 use mathlib.Core.Path.{◌∙◌}
 use borrow.Author.Tests.{eq-eqb, ne_eqb}
-use Rattle.condition.specs.Bound.{testList, suitsBound}
+use Rattle.condition.specs.Bound.{test_list, suits_bound}
 use Rattle.condition.proofs.Four.{passed, failed}
-use Rattle.judge.specs.Columns.{eventIn}
-use Rattle.judge.proofs.ByColumn.{all-pass-in}
+use Rattle.judge.specs.Columns.{event_in}
+use Rattle.judge.proofs.ByColumn.{all_pass_in}
 use borrow.Author.Rules.{rules}
 use Rattle.judge.proofs.scan.suits_at.Statement.{statement}
 use Rattle.judge.proofs.scan.suits_at.Tie as tie
@@ -13,7 +13,7 @@ element-copy-out-if1 : tie.Need-element-copy-out-if1
 element-copy-out-if1 c = search rules
 
 returns : tie.Need-returns
-unfolding suitsBound eventIn
+unfolding suits_bound event_in
 returns c = rw (ne_eqb _ _ c.if1.true)
 
 mul-between : tie.Need-overflow-mul-between
@@ -29,7 +29,7 @@ within-requires : tie.Need-within-requires
 within-requires c κs = search rules
 
 returns-2 : tie.Need-returns-2
-unfolding suitsBound eventIn
+unfolding suits_bound event_in
 returns-2 c = let same = c.before.before.before.before in
     rw (eq-eqb _ _ same.if1.false, ← c.before.before.between.ensures, failed c.before.within.ensures c.if2.true)
 
@@ -37,12 +37,12 @@ all-pass-at-requires : tie.Need-all-pass-at-requires
 all-pass-at-requires c κs = search rules
 
 returns-3 : tie.Need-returns-3
-unfolding suitsBound eventIn
+unfolding suits_bound event_in
 returns-3 c = let inside = c.before in
     let same = inside.before.before.before.before in
     let a = same.before.before.before.args in
     rw (eq-eqb _ _ same.if1.false, ← inside.before.before.between.ensures, passed inside.before.within.ensures inside.if2.false)
-    (c.all-pass-at.ensures ∙ all-pass-in a.times.now a.activities.now a.numbers.now a.q (testList a.bound.tests))
+    (c.all-pass-at.ensures ∙ all_pass_in a.times.now a.activities.now a.numbers.now a.q (test_list a.bound.tests))
 
 pub suits-at-spec : {M : Type 1} → statement M
 suits-at-spec =

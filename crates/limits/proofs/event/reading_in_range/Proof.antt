@@ -23,7 +23,7 @@ returns c = rw c.enum_told.given.1
 returns-2 : tie.Need-returns-2
 returns-2 c =
     let v : to_z w32 (of_z w32 c.before.before.reading.given.0.0) ≡ c.before.before.reading.given.0.0 = search rules in
-    rw (c.before.before.reading.given.1, c.in-range.ensures, v)
+    rw (c.before.before.reading.given.1, c.in_range_lem.ensures, v)
 
 pub reading-in-range-spec : {M : Type 1} → statement M
 reading-in-range-spec =

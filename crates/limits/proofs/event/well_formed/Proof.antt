@@ -1,7 +1,7 @@
 -- Time, activity and four readings, as the definition asks.
 use mathlib.Core.Bool.{and-true, and_assoc}
 use Rattle.declare.specs.Lists.{all}
-use Rattle.declare.specs.Events.{readingsInRange, wellFormed}
+use Rattle.declare.specs.Events.{readings_in_range, well_formed}
 use borrow.Author.Rules.{rules}
 use Rattle.limits.proofs.event.well_formed.Statement.{statement}
 use Rattle.limits.proofs.event.well_formed.Tie as tie
@@ -22,9 +22,9 @@ reading-in-range-requires-4 : tie.Need-reading-in-range-requires-4
 reading-in-range-requires-4 c κs = search rules
 
 returns : tie.Need-returns
-unfolding all readingsInRange wellFormed
+unfolding all readings_in_range well_formed
 returns c =
-    rw (c.reading-in-range4.ensures, c.before.reading-in-range3.ensures, c.before.before.reading-in-range2.ensures, c.before.before.before.reading-in-range.ensures, c.before.before.before.before.is-activity.ensures)
+    rw (c.reading-in-range4.ensures, c.before.reading-in-range3.ensures, c.before.before.reading-in-range2.ensures, c.before.before.before.reading_in_range_lem.ensures, c.before.before.before.before.is-activity.ensures)
     (simp (and-true, and_assoc))
 
 pub well-formed-spec : {M : Type 1} → statement M

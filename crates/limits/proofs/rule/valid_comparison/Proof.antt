@@ -1,5 +1,5 @@
 -- Both parts of the definition.
-use Rattle.declare.specs.Rules.{validComparison}
+use Rattle.declare.specs.Rules.{valid_comparison}
 use borrow.Author.Rules.{rules}
 use Rattle.limits.proofs.rule.valid_comparison.Statement.{statement}
 use Rattle.limits.proofs.rule.valid_comparison.Tie as tie
@@ -11,7 +11,7 @@ valid-reference-requires : tie.Need-valid-reference-requires
 valid-reference-requires c κs = search rules
 
 returns : tie.Need-returns
-unfolding validComparison
+unfolding valid_comparison
 returns c = rw (c.valid-reference.ensures, c.before.is-reading.ensures)
 
 pub valid-comparison-spec : {M : Type 1} → statement M

@@ -2,14 +2,14 @@
 use mathlib.Core.Path.{◌≡◌}
 use native.Mathlib.Omega.{arith}
 use Rattle.declare.specs.Lists.{all}
-use Rattle.declare.specs.Conditions.{comparisonsOf}
-use Rattle.declare.specs.Rules.{validCondition}
+use Rattle.declare.specs.Conditions.{comparisons_of}
+use Rattle.declare.specs.Rules.{valid_condition}
 use borrow.Author.Rules.{rules}
 use Rattle.limits.proofs.rule.valid_condition.Statement.{statement}
 use Rattle.limits.proofs.rule.valid_condition.Tie as tie
 
 returns : tie.Need-returns
-unfolding validCondition comparisonsOf all
+unfolding valid_condition comparisons_of all
 returns c =
     let none : c.before.before.args.c.count ≡ 0 = omega (arith, c.if1.true) in
     rw none
@@ -18,8 +18,8 @@ valid-comparisons-requires : tie.Need-valid-comparisons-requires
 valid-comparisons-requires c κs = search rules
 
 returns-2 : tie.Need-returns-2
-unfolding validCondition
-returns-2 c = rw c.valid-comparisons.ensures
+unfolding valid_condition
+returns-2 c = rw c.valid_comparisons_lem.ensures
 
 pub valid-condition-spec : {M : Type 1} → statement M
 valid-condition-spec = tie.close (tie.spec returns valid-comparisons-requires returns-2)

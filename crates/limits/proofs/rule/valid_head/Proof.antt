@@ -1,5 +1,5 @@
 -- The four parts of the definition.
-use Rattle.declare.specs.Rules.{isTemplate, validHead}
+use Rattle.declare.specs.Rules.{is_template, valid_head}
 use borrow.Author.Rules.{rules}
 use Rattle.limits.proofs.rule.valid_head.Statement.{statement}
 use Rattle.limits.proofs.rule.valid_head.Tie as tie
@@ -14,7 +14,7 @@ valid-window-requires : tie.Need-valid-window-requires
 valid-window-requires c κs = search rules
 
 returns : tie.Need-returns
-unfolding isTemplate validHead
+unfolding is_template valid_head
 returns c = rw (c.valid-window.ensures, c.before.is-activity2.ensures, c.before.before.is-activity.ensures)
 
 pub valid-head-spec : {M : Type 1} → statement M

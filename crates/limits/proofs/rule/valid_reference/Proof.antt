@@ -2,7 +2,7 @@
 use mathlib.Core.Path.{◌≡◌}
 use mir.Syntax.{w32}
 use mir.Val.{to_z, of_z}
-use Rattle.declare.specs.Rules.{validReference}
+use Rattle.declare.specs.Rules.{valid_reference}
 use borrow.Author.Rules.{rules}
 use Rattle.limits.proofs.rule.valid_reference.Statement.{statement}
 use Rattle.limits.proofs.rule.valid_reference.Tie as tie
@@ -23,14 +23,14 @@ in-range-requires-2 : tie.Need-in-range-requires-2
 in-range-requires-2 c κs = search rules
 
 returns : tie.Need-returns
-unfolding validReference
+unfolding valid_reference
 returns c =
     let x = c.before.before.reference.given in
     let k : to_z w32 (of_z w32 x.0.0) ≡ x.0.0 = search rules in
-    rw (x.1, c.in-range.ensures, k)
+    rw (x.1, c.in_range_lem.ensures, k)
 
 returns-2 : tie.Need-returns-2
-unfolding validReference
+unfolding valid_reference
 returns-2 c =
     let x = c.before.before.before.reference2.given in
     let k : to_z w32 (of_z w32 x.0.1.0) ≡ x.0.1.0 = search rules in

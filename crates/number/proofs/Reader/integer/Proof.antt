@@ -1,5 +1,5 @@
--- `number::Reader::integer` goes by the cases of `integerIn`.
-use Rattle.number.specs.Reader.{integerIn}
+-- `number::Reader::integer` goes by the cases of `integer_in`.
+use Rattle.number.specs.Reader.{integer_in}
 use borrow.Author.Rules.{rules}
 use Rattle.number.proofs.Reader.integer.Statement.{statement}
 use Rattle.number.proofs.Reader.integer.Tie as tie
@@ -29,27 +29,27 @@ enum-told-4 : tie.Need-enum-told-4
 enum-told-4 c = search rules
 
 returns : tie.Need-returns
-unfolding integerIn
+unfolding integer_in
 returns c = rw c.enum_told.given.1
 
 returns-2 : tie.Need-returns-2
-unfolding integerIn
+unfolding integer_in
 returns-2 c = rw c.enum-told2.given.1
 
 returns-3 : tie.Need-returns-3
-unfolding integerIn
+unfolding integer_in
 returns-3 c = simp c.before.enum-told3.given.1 c.positive-answer.ensures
 
 returns-4 : tie.Need-returns-4
-unfolding integerIn
+unfolding integer_in
 returns-4 c = simp (c.before.before.before.self.given.1, c.before.if1.true) c.negative-answer.ensures
 
 returns-5 : tie.Need-returns-5
-unfolding integerIn
+unfolding integer_in
 returns-5 c = simp (c.before.before.before.self.given.1, c.before.if1.false) c.positive-answer2.ensures
 
 returns-6 : tie.Need-returns-6
-unfolding integerIn
+unfolding integer_in
 returns-6 c = rw c.enum-told4.given.1
 
 pub integer-spec : {M : Type 1} → statement M

@@ -1,5 +1,5 @@
--- `number::Reader::is_dash` goes by the cases of `dashIn`.
-use Rattle.number.specs.Reader.{dashIn}
+-- `number::Reader::is_dash` goes by the cases of `dash_in`.
+use Rattle.number.specs.Reader.{dash_in}
 use borrow.Author.Rules.{rules}
 use Rattle.number.proofs.Reader.is_dash.Statement.{statement}
 use Rattle.number.proofs.Reader.is_dash.Tie as tie
@@ -20,23 +20,23 @@ enum-told-4 : tie.Need-enum-told-4
 enum-told-4 c = search rules
 
 returns : tie.Need-returns
-unfolding dashIn
+unfolding dash_in
 returns c = search rules
 
 returns-2 : tie.Need-returns-2
-unfolding dashIn
+unfolding dash_in
 returns-2 c = search rules
 
 returns-3 : tie.Need-returns-3
-unfolding dashIn
+unfolding dash_in
 returns-3 c = search rules
 
 returns-4 : tie.Need-returns-4
-unfolding dashIn
+unfolding dash_in
 returns-4 c = search rules
 
 returns-5 : tie.Need-returns-5
-unfolding dashIn
+unfolding dash_in
 returns-5 c = search rules
 
 pub is-dash-spec : {M : Type 1} → statement M

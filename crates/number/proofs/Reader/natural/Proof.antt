@@ -1,5 +1,5 @@
--- `number::Reader::natural` goes by the cases of `naturalIn`.
-use Rattle.number.specs.Reader.{naturalIn}
+-- `number::Reader::natural` goes by the cases of `natural_in`.
+use Rattle.number.specs.Reader.{natural_in}
 use borrow.Author.Rules.{rules}
 use Rattle.number.proofs.Reader.natural.Statement.{statement}
 use Rattle.number.proofs.Reader.natural.Tie as tie
@@ -26,27 +26,27 @@ enum-told-4 : tie.Need-enum-told-4
 enum-told-4 c = search rules
 
 returns : tie.Need-returns
-unfolding naturalIn
+unfolding natural_in
 returns c = rw c.enum_told.given.1
 
 returns-2 : tie.Need-returns-2
-unfolding naturalIn
+unfolding natural_in
 returns-2 c = rw c.enum-told2.given.1
 
 returns-3 : tie.Need-returns-3
-unfolding naturalIn
+unfolding natural_in
 returns-3 c = simp c.before.enum-told3.given.1 c.natural-answer.ensures
 
 returns-4 : tie.Need-returns-4
-unfolding naturalIn
+unfolding natural_in
 returns-4 c = simp (c.before.before.self.given.1, c.if1.true)
 
 returns-5 : tie.Need-returns-5
-unfolding naturalIn
+unfolding natural_in
 returns-5 c = simp (c.before.before.before.self.given.1, c.before.if1.false) c.natural-answer2.ensures
 
 returns-6 : tie.Need-returns-6
-unfolding naturalIn
+unfolding natural_in
 returns-6 c = rw c.enum-told4.given.1
 
 pub natural-spec : {M : Type 1} → statement M

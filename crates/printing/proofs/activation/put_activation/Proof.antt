@@ -1,7 +1,7 @@
 -- Four fields, each with the byte that ends it.
 use Rattle.buffer.proofs.Puts.{puts_then}
-use Rattle.buffer.proofs.Lines.{puts-line}
-use Rattle.printing.specs.Lines.{lineFields}
+use Rattle.buffer.proofs.Lines.{puts_line}
+use Rattle.printing.specs.Lines.{line_fields}
 use borrow.Author.Rules.{rules}
 use Rattle.printing.proofs.activation.put_activation.Statement.{statement}
 use Rattle.printing.proofs.activation.put_activation.Tie as tie
@@ -25,14 +25,14 @@ same_length : tie.Need-same-length
 same_length c = search rules
 
 returns : tie.Need-returns
-unfolding lineFields
+unfolding line_fields
 returns c =
     let target = c.before.before in
     let tab = target.before.before.before.before in
     let letter = tab.before.before.before.before in
     let position = letter.before.before.before.before in
     let rule = position.before.before.before.before in
-    puts-line lineFields _
+    puts_line line_fields _
     (puts_then rule.put-number-field.ensures
     (puts_then position.put-number-field2.ensures
     (puts_then (puts_then letter.put_byte.ensures tab.put-byte2.ensures) target.put-number-field3.ensures)))

@@ -1,7 +1,7 @@
 -- Four fields, each with the byte that ends it.
 use Rattle.buffer.proofs.Puts.{puts_then}
-use Rattle.buffer.proofs.Lines.{puts-line}
-use Rattle.printing.specs.Lines.{lineFields}
+use Rattle.buffer.proofs.Lines.{puts_line}
+use Rattle.printing.specs.Lines.{line_fields}
 use borrow.Author.Rules.{rules}
 use Rattle.printing.proofs.refused.put_refused.Statement.{statement}
 use Rattle.printing.proofs.refused.put_refused.Tie as tie
@@ -28,14 +28,14 @@ same_length : tie.Need-same-length
 same_length c = search rules
 
 returns : tie.Need-returns
-unfolding lineFields
+unfolding line_fields
 returns c =
     let line = c.before.before in
     let number = line.before.before.before.before in
     let tab = number.before.before.before.before in
     let word = tab.before.before.before.before in
     let first = word.before.before.before.before in
-    puts-line lineFields _
+    puts_line line_fields _
     (puts_then first.put-bytes.ensures
     (puts_then (puts_then word.put-bytes2.ensures tab.put_byte.ensures)
     (puts_then number.put-number-field.ensures line.put-number-field2.ensures)))

@@ -4,12 +4,12 @@ use mathlib.Core.Path.{◌≡◌, refl, ap, ◌∙◌}
 use Prim.Native.Nat.{◌-◌, ◌≤◌}
 use native.Mathlib.Omega.{arith}
 use Rattle.declare.specs.declared.Standing.{Standing}
-use Rattle.standings.specs.Places.{standingFrom, withZero}
-use Rattle.standings.specs.Totals.{totalsBy, withStanding}
-use Rattle.standings.proofs.Counts.{totals-first, next_place, totals-again}
-use Rattle.buffer.proofs.Puts.{puts-length}
-use Rattle.printing.specs.Report.{eventLines}
-use Rattle.printing.proofs.Lines.{PutLines, no-position, next-position, then-totals}
+use Rattle.standings.specs.Places.{standing_from, with_zero}
+use Rattle.standings.specs.Totals.{totals_by, with_standing}
+use Rattle.standings.proofs.Counts.{totals_first, next_place, totals_again}
+use Rattle.buffer.proofs.Puts.{puts_length}
+use Rattle.printing.specs.Report.{event_lines}
+use Rattle.printing.proofs.Lines.{PutLines, no_position, next_position, then_totals}
 use borrow.Author.Rules.{rules}
 use Rattle.printing.proofs.rules.put_events.Statement.{statement}
 use Rattle.printing.proofs.rules.put_events.Tie as tie
@@ -17,7 +17,7 @@ use Rattle.printing.proofs.rules.put_events.Tie as tie
 abbrev invariant-loop : tie.invariant-loop
 invariant-loop out₀ start rule first count cells at₀ totals₀ p₀ out at totals p =
     (p ≤ count)
-    × ((z : Standing) → totals₀ ≡ totalsBy (withZero z (standingFrom cells first)) 0 → PutLines (eventLines rule (withZero z (standingFrom cells first)) p) out₀ start out at × (totals ≡ totalsBy (withZero z (standingFrom cells first)) p))
+    × ((z : Standing) → totals₀ ≡ totals_by (with_zero z (standing_from cells first)) 0 → PutLines (event_lines rule (with_zero z (standing_from cells first)) p) out₀ start out at × (totals ≡ totals_by (with_zero z (standing_from cells first)) p))
 
 abbrev decreases-loop : tie.decreases-loop
 decreases-loop out₀ start rule first count cells at₀ totals₀ p₀ out at totals p = count - p
@@ -29,7 +29,7 @@ with-standing-requires : tie.Need-with-standing-requires invariant-loop decrease
 with-standing-requires c κs = search rules
 
 loop-holds : tie.Need-loop-init invariant-loop decreases-loop
-loop-holds c = (omega arith, λ z e. (no-position _ _ _ _, e))
+loop-holds c = (omega arith, λ z e. (no_position _ _ _ _, e))
 
 add-c : tie.Need-overflow-add-c invariant-loop decreases-loop
 add-c c = search rules
@@ -64,7 +64,7 @@ loop-again c =
     let read = put.before.before in
     let loop = read.before.before.loop in (
       omega arith,
-      λ z e. (next-position _ _ loop.p _ (next_place z _ _ _) (loop.invariant.1 z e).0 put.put-position.ensures, totals-again z _ _ loop.p (omega arith) (loop.invariant.1 z e).1 refl c.with-standing2.ensures),
+      λ z e. (next_position _ _ loop.p _ (next_place z _ _ _) (loop.invariant.1 z e).0 put.put-position.ensures, totals_again z _ _ loop.p (omega arith) (loop.invariant.1 z e).1 refl c.with-standing2.ensures),
     )
 
 put-total-requires : tie.Need-put-total-requires invariant-loop decreases-loop
@@ -72,23 +72,23 @@ put-total-requires c κs = search rules
 
 -- what the loop began with, and so what it has
 begun : (c : tie.At-loop invariant-loop decreases-loop) → let a = c.before.before.before.before.args in
-    PutLines (eventLines a.rule (withZero a.zero (standingFrom a.t7 a.first)) c.loop.p) a.out.now a.start c.loop.out c.loop.at
-    × (c.loop.totals ≡ totalsBy (withZero a.zero (standingFrom a.t7 a.first)) c.loop.p)
-unfolding withZero
+    PutLines (event_lines a.rule (with_zero a.zero (standing_from a.t7 a.first)) c.loop.p) a.out.now a.start c.loop.out c.loop.at
+    × (c.loop.totals ≡ totals_by (with_zero a.zero (standing_from a.t7 a.first)) c.loop.p)
+unfolding with_zero
 begun c =
     let a = c.before.before.before.before.args in
-    let row = withZero a.zero (standingFrom a.t7 a.first) in
-    c.loop.invariant.1 a.zero (c.before.with-standing.ensures ∙ ap (λ t. withStanding t a.zero) c.before.before.no-totals.ensures ∙ totals-first row)
+    let row = with_zero a.zero (standing_from a.t7 a.first) in
+    c.loop.invariant.1 a.zero (c.before.with-standing.ensures ∙ ap (λ t. with_standing t a.zero) c.before.before.no-totals.ensures ∙ totals_first row)
 
 same_length : tie.Need-same-length invariant-loop decreases-loop
-same_length c = puts-length c.before.before.put-total.ensures ∙ puts-length (begun c.before.before.before.before.before).0
+same_length c = puts_length c.before.before.put-total.ensures ∙ puts_length (begun c.before.before.before.before.before).0
 
 returns : tie.Need-returns invariant-loop decreases-loop
 returns c =
     let last = c.before.before in
     let loop = last.before.before.before.loop in
     let all : loop.p ≡ last.before.before.before.before.before.before.before.args.count = omega arith in
-    rw (← all) (then-totals _ _ loop.p _ (begun last.before.before.before).1 (begun last.before.before.before).0 last.put-total.ensures)
+    rw (← all) (then_totals _ _ loop.p _ (begun last.before.before.before).1 (begun last.before.before.before).0 last.put-total.ensures)
 
 pub put-events-spec : {M : Type 1} → statement M
 put-events-spec =

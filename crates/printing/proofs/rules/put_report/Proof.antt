@@ -2,26 +2,26 @@
 use mathlib.Core.Path.{◌≡◌, refl, ap}
 use Prim.Native.Nat.{ℕ, ◌-◌, ◌≤◌}
 use native.Mathlib.Omega.{arith}
-use Rattle.standings.specs.Places.{withZero}
-use Rattle.run.specs.Records.{standingAt}
-use Rattle.line.specs.Texts.{writtenText}
-use Rattle.buffer.proofs.Puts.{puts-length, puts-as}
-use Rattle.printing.specs.Lines.{lineFields}
-use Rattle.printing.specs.Report.{linesUpTo, ruleLines, reportLines, reportOf}
-use Rattle.printing.proofs.Lines.{PutLines, put-none, put_next, zero-first, row-lines}
+use Rattle.standings.specs.Places.{with_zero}
+use Rattle.run.specs.Records.{standing_at}
+use Rattle.line.specs.Texts.{written_text}
+use Rattle.buffer.proofs.Puts.{puts_length, puts_as}
+use Rattle.printing.specs.Lines.{line_fields}
+use Rattle.printing.specs.Report.{lines_up_to, rule_lines, report_lines, report_of}
+use Rattle.printing.proofs.Lines.{PutLines, put_none, put_next, zero_first, row_lines}
 use borrow.Author.Rules.{rules}
 use Rattle.printing.proofs.rules.put_report.Statement.{statement}
 use Rattle.printing.proofs.rules.put_report.Tie as tie
 
 abbrev invariant-loop : tie.invariant-loop
 invariant-loop out₀ run table overall cells at₀ k₀ k-end out at k =
-    (k ≤ k-end) × (k-end ≡ run.table.count) × ((table ≡ run.table) × (overall ≡ run.overall) × (cells ≡ run.cells)) × PutLines (linesUpTo (λ k. ruleLines k (standingAt run k) run.count) k) out₀ 0 out at
+    (k ≤ k-end) × (k-end ≡ run.table.count) × ((table ≡ run.table) × (overall ≡ run.overall) × (cells ≡ run.cells)) × PutLines (lines_up_to (λ k. rule_lines k (standing_at run k) run.count) k) out₀ 0 out at
 
 abbrev decreases-loop : tie.decreases-loop
 decreases-loop out₀ run table overall cells at₀ k₀ k-end out at k = k-end - k
 
 loop-holds : tie.Need-loop-init invariant-loop decreases-loop
-loop-holds c = (omega arith, refl, (refl, refl, refl), put-none _ _ _)
+loop-holds c = (omega arith, refl, (refl, refl, refl), put_none _ _ _)
 
 add-zero-in : tie.Need-overflow-add-zero-in invariant-loop decreases-loop
 add-zero-in c = search rules
@@ -57,25 +57,25 @@ loop-less : tie.Need-loop-smaller invariant-loop decreases-loop
 loop-less c = search rules
 
 loop-again : tie.Need-loop-preserved invariant-loop decreases-loop
-unfolding withZero
+unfolding with_zero
 loop-again c =
     let events = c.before.before in
     let zero = events.before.before.before.before in
     let loop = zero.before.before.before.before.loop in
     let same = loop.invariant.2 in
-    let put = zero-first _ _ _ zero.put-position.ensures events.put-events.ensures in
-    (omega arith, loop.invariant.1, same, put_next _ loop.k loop.invariant.3 (row-lines _ _ _ loop.k (rw (zero.before.before.zero_in.ensures, same.0, same.1, same.2) at put)))
+    let put = zero_first _ _ _ zero.put-position.ensures events.put-events.ensures in
+    (omega arith, loop.invariant.1, same, put_next _ loop.k loop.invariant.3 (row_lines _ _ _ loop.k (rw (zero.before.before.zero_in.ensures, same.0, same.1, same.2) at put)))
 
 same_length : tie.Need-same-length invariant-loop decreases-loop
-same_length c = puts-length c.before.loop.invariant.3
+same_length c = puts_length c.before.loop.invariant.3
 
 returns : tie.Need-returns invariant-loop decreases-loop
-unfolding reportOf reportLines
+unfolding report_of report_lines
 returns c =
     let loop = c.before.loop in
     let run = c.before.before.before.before.before.before.args.run in
     let all : loop.k ≡ run.table.count = omega arith in
-    puts-as (ap (λ (k : ℕ). writtenText lineFields (linesUpTo (λ k. ruleLines k (standingAt run k) run.count) k)) all) loop.invariant.3
+    puts_as (ap (λ (k : ℕ). written_text line_fields (lines_up_to (λ k. rule_lines k (standing_at run k) run.count) k)) all) loop.invariant.3
 
 pub put-report-spec : {M : Type 1} → statement M
 put-report-spec =

@@ -1,7 +1,7 @@
 -- The word, and four fields, each with the byte that ends it.
 use Rattle.buffer.proofs.Puts.{puts_then}
-use Rattle.buffer.proofs.Lines.{puts-line}
-use Rattle.printing.specs.Lines.{lineFields}
+use Rattle.buffer.proofs.Lines.{puts_line}
+use Rattle.printing.specs.Lines.{line_fields}
 use Rattle.printing.specs.Report.{total_of}
 use borrow.Author.Rules.{rules}
 use Rattle.printing.proofs.rules.put_total.Statement.{statement}
@@ -38,7 +38,7 @@ same_length : tie.Need-same-length
 same_length c = search rules
 
 returns : tie.Need-returns
-unfolding lineFields total_of
+unfolding line_fields total_of
 returns c =
     let violated = c.before.before in
     let fulfilled = violated.before.before.before.before.before in
@@ -46,7 +46,7 @@ returns c =
     let rule = activations.before.before.before.before.before in
     let word = rule.before.before.before.before in
     let start = word.before.before.before.before in
-    puts-line lineFields (total_of start.args.rule start.args.totals)
+    puts_line line_fields (total_of start.args.rule start.args.totals)
     (puts_then word.put-bytes.ensures
     (puts_then rule.put-number-field.ensures
     (puts_then activations.put-number-field2.ensures

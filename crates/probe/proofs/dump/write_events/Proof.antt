@@ -1,15 +1,15 @@
 -- A loop over the slots.
 use borrow.Author.Rules.{rules}
 use Prim.Native.Nat.{◌-◌, ◌≤◌}
-use Rattle.declare.specs.Limits.{mostEvents}
+use Rattle.declare.specs.Limits.{most_events}
 use Rattle.probe.proofs.dump.write_events.Statement.{statement}
 use Rattle.probe.proofs.dump.write_events.Tie as tie
 
 abbrev invariant-loop : tie.invariant-loop
-invariant-loop events p₀ p = p ≤ mostEvents
+invariant-loop events p₀ p = p ≤ most_events
 
 abbrev decreases-loop : tie.decreases-loop
-decreases-loop events p₀ p = mostEvents - p
+decreases-loop events p₀ p = most_events - p
 
 loop-holds : tie.Need-loop-init invariant-loop decreases-loop
 loop-holds c = search rules

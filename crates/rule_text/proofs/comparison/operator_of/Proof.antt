@@ -1,36 +1,36 @@
 -- `comparison::operator_of`, byte by byte.
 use borrow.Author.Tests.{ne_eqb}
-use Rattle.rule_text.specs.Comparisons.{operatorOf}
-use Rattle.rule_text.specs.Reads.{operatorRead}
+use Rattle.rule_text.specs.Comparisons.{operator_of}
+use Rattle.rule_text.specs.Reads.{operator_read}
 use Rattle.rule_text.proofs.comparison.operator_of.Statement.{statement}
 use Rattle.rule_text.proofs.comparison.operator_of.Tie as tie
 
 returns : tie.Need-returns
-unfolding operatorOf operatorRead
+unfolding operator_of operator_read
 returns c = rw c.match.keys1
 
 returns-2 : tie.Need-returns-2
-unfolding operatorOf operatorRead
+unfolding operator_of operator_read
 returns-2 c = rw c.match.keys2
 
 returns-3 : tie.Need-returns-3
-unfolding operatorOf operatorRead
+unfolding operator_of operator_read
 returns-3 c = rw c.match.keys3
 
 returns-4 : tie.Need-returns-4
-unfolding operatorOf operatorRead
+unfolding operator_of operator_read
 returns-4 c = rw c.match.keys4
 
 returns-5 : tie.Need-returns-5
-unfolding operatorOf operatorRead
+unfolding operator_of operator_read
 returns-5 c = rw c.match.keys5
 
 returns-6 : tie.Need-returns-6
-unfolding operatorOf operatorRead
+unfolding operator_of operator_read
 returns-6 c = rw c.match.keys6
 
 returns-7 : tie.Need-returns-7
-unfolding operatorOf operatorRead
+unfolding operator_of operator_read
 returns-7 c = let r = c.match.rest in simp (ne_eqb _ _ r.0.0.0.0.0.1, ne_eqb _ _ r.0.0.0.0.1, ne_eqb _ _ r.0.0.0.1, ne_eqb _ _ r.0.0.1, ne_eqb _ _ r.0.1, ne_eqb _ _ r.1)
 
 pub operator-of-spec : {M : Type 1} → statement M

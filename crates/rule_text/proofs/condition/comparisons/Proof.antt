@@ -6,18 +6,18 @@ use mathlib.Core.List.{List, [], ◌∷◌, ◌++◌}
 use Prim.Native.Nat.{ℕ, ◌+◌, ◌-◌, ◌≤◌, ◌<◌}
 use native.Mathlib.Omega.{arith}
 use lib.ListN.{length, drop, length-append, length-drop}
-use Rattle.declare.specs.Conditions.{comparisonsOf}
+use Rattle.declare.specs.Conditions.{comparisons_of}
 use Rattle.declare.specs.Refusals.{number_of}
-use Rattle.declare.specs.Rules.{noCondition}
+use Rattle.declare.specs.Rules.{no_condition}
 use Rattle.line.specs.Fields.{index_of, before, split}
 use Rattle.declare.specs.Answers.{accepted, ◌>>=◌}
-use Rattle.line.proofs.Fields.{part-rest}
+use Rattle.line.proofs.Fields.{part_rest}
 use Rattle.rule_text.specs.Types.{Comparison, Condition, ComparisonAnswer, Compared}
-use Rattle.rule_text.specs.Comparisons.{comparisonField}
-use Rattle.rule_text.specs.Conditions.{comma, comparisonsAfter, conditionOf, comparisonsField}
-use Rattle.rule_text.specs.Reads.{upToComma, comparisonRead, conditionRead}
-use Rattle.rule_text.proofs.Comparisons.{measured, length-le, comma-refused}
-use Rattle.rule_text.proofs.Conditions.{comparisons-slots, fields_at, fields-start, fields-end, fields-next, after-refused, after-full, after_next}
+use Rattle.rule_text.specs.Comparisons.{comparison_field}
+use Rattle.rule_text.specs.Conditions.{comma, comparisons_after, condition_of, comparisons_field}
+use Rattle.rule_text.specs.Reads.{up_to_comma, comparison_read, condition_read}
+use Rattle.rule_text.proofs.Comparisons.{measured, length_le, comma_refused}
+use Rattle.rule_text.proofs.Conditions.{comparisons_slots, fields_at, fields_start, fields_end, fields_next, after_refused, after_full, after_next}
 use borrow.Author.Rules.{rules}
 use Rattle.rule_text.proofs.condition.comparisons.Statement.{statement}
 use Rattle.rule_text.proofs.condition.comparisons.Tie as tie
@@ -25,8 +25,8 @@ use Rattle.rule_text.proofs.condition.comparisons.Tie as tie
 abbrev invariant-loop : tie.invariant-loop
 invariant-loop field correlation condition₀ at₀ condition at =
     (at ≤ length field + 1)
-    × (condition ≡ conditionOf (comparisonsOf condition))
-    × (comparisonsAfter correlation [] (split comma field) ≡ comparisonsAfter correlation (comparisonsOf condition) (fields_at field at))
+    × (condition ≡ condition_of (comparisons_of condition))
+    × (comparisons_after correlation [] (split comma field) ≡ comparisons_after correlation (comparisons_of condition) (fields_at field at))
 
 abbrev decreases-loop : tie.decreases-loop
 decreases-loop field correlation condition₀ at₀ condition at = length field + 1 - at
@@ -37,59 +37,59 @@ Read = tie.After-comparison invariant-loop decreases-loop
 abbrev field_of : Read → List ℕ
 field_of c = c.before.before.before.before.before.before.args.field.now
 
-abbrev correlation-of : Read → Bool
-correlation-of c = c.before.before.before.before.before.before.args.correlation
+abbrev correlation_of : Read → Bool
+correlation_of c = c.before.before.before.before.before.before.args.correlation
 
 abbrev at_of : Read → ℕ
 at_of c = c.before.before.before.loop.at
 
 -- the comparisons held, and the part that begins at the next
 abbrev held : Read → List Comparison
-held c = comparisonsOf c.before.before.before.loop.condition
+held c = comparisons_of c.before.before.before.loop.condition
 
 abbrev left : Read → List ℕ
 left c = drop (at_of c) (field_of c)
 
-comparison-is : (c : Read) (x : ComparisonAnswer) → c.comparison.result ≡ x → upToComma (comparisonField (correlation-of c)) (left c) ≡ comparisonRead x
-comparison-is c x p =
-    let e : comparisonRead c.comparison.result ≡ upToComma (comparisonField (correlation-of c)) (left c) = rw (part-rest (field_of c) (at_of c)) at c.comparison.ensures in
-    sym e ∙ ap comparisonRead p
+comparison_is : (c : Read) (x : ComparisonAnswer) → c.comparison.result ≡ x → up_to_comma (comparison_field (correlation_of c)) (left c) ≡ comparison_read x
+comparison_is c x p =
+    let e : comparison_read c.comparison.result ≡ up_to_comma (comparison_field (correlation_of c)) (left c) = rw (part_rest (field_of c) (at_of c)) at c.comparison.ensures in
+    sym e ∙ ap comparison_read p
 
 -- the field, by the comparison in hand
-by-comparison : (c : Read) → comparisonsAfter (correlation-of c) [] (split comma (field_of c)) ≡ comparisonsAfter (correlation-of c) (held c) (before comma (left c) ∷ fields_at (field_of c) (at_of c + index_of comma (left c) + 1))
-by-comparison c =
+by_comparison : (c : Read) → comparisons_after (correlation_of c) [] (split comma (field_of c)) ≡ comparisons_after (correlation_of c) (held c) (before comma (left c) ∷ fields_at (field_of c) (at_of c + index_of comma (left c) + 1))
+by_comparison c =
     c.before.before.before.loop.invariant.2
-    ∙ ap (comparisonsAfter (correlation-of c) (held c)) (fields-next (field_of c) (at_of c) c.before.before.loop-test.true)
+    ∙ ap (comparisons_after (correlation_of c) (held c)) (fields_next (field_of c) (at_of c) c.before.before.loop-test.true)
 
-count-is : (c : Read) → c.before.before.before.loop.condition.count ≡ length (held c)
-unfolding conditionOf
-count-is c = ap (λ (x : Condition). x.count) c.before.before.before.loop.invariant.1
+count_is : (c : Read) → c.before.before.before.loop.condition.count ≡ length (held c)
+unfolding condition_of
+count_is c = ap (λ (x : Condition). x.count) c.before.before.before.loop.invariant.1
 
 -- a comparison that was read
 module _ (c : Read) (d : Comparison) (n : ℕ) (h : c.comparison.result ≡ Compared d n) where
-  whole : upToComma (comparisonField (correlation-of c)) (left c) ≡ accepted (record { value = d; length = n })
-  unfolding comparisonRead
-  whole = comparison-is c (Compared d n) h
+  whole : up_to_comma (comparison_field (correlation_of c)) (left c) ≡ accepted (record { value = d; length = n })
+  unfolding comparison_read
+  whole = comparison_is c (Compared d n) h
 
-  holds : comparisonField (correlation-of c) (before comma (left c)) ≡ accepted d
-  holds = (measured (comparisonField (correlation-of c)) (left c) (record { value = d; length = n }) whole).0
+  holds : comparison_field (correlation_of c) (before comma (left c)) ≡ accepted d
+  holds = (measured (comparison_field (correlation_of c)) (left c) (record { value = d; length = n }) whole).0
 
-  length-is : index_of comma (left c) ≡ n
-  length-is = (measured (comparisonField (correlation-of c)) (left c) (record { value = d; length = n }) whole).1
+  length_is : index_of comma (left c) ≡ n
+  length_is = (measured (comparison_field (correlation_of c)) (left c) (record { value = d; length = n }) whole).1
 
   within : at_of c + n ≤ length (field_of c)
   within =
-      omega (arith, length-le (comparisonField (correlation-of c)) (left c) (record { value = d; length = n }) whole, length-drop (at_of c) (field_of c), c.before.before.loop-test.true)
+      omega (arith, length_le (comparison_field (correlation_of c)) (left c) (record { value = d; length = n }) whole, length-drop (at_of c) (field_of c), c.before.before.loop-test.true)
 
-  held_more : length (held c) < 4 → comparisonsOf (conditionOf (held c ++ (d ∷ []))) ≡ held c ++ (d ∷ [])
-  held_more l = comparisons-slots (held c ++ (d ∷ [])) (rw (length-append (held c) (d ∷ [])) (omega arith))
+  held_more : length (held c) < 4 → comparisons_of (condition_of (held c ++ (d ∷ []))) ≡ held c ++ (d ∷ [])
+  held_more l = comparisons_slots (held c ++ (d ∷ [])) (rw (length-append (held c) (d ∷ [])) (omega arith))
 
 no-condition-requires : tie.Need-no-condition-requires invariant-loop decreases-loop
 no-condition-requires c κs = search rules
 
 loop-holds : tie.Need-loop-init invariant-loop decreases-loop
-unfolding noCondition conditionOf comparisonsOf
-loop-holds c = rw c.no-condition.ensures (omega arith, refl, ap (comparisonsAfter _ []) (sym (fields-start _)))
+unfolding no_condition condition_of comparisons_of
+loop-holds c = rw c.no-condition.ensures (omega arith, refl, ap (comparisons_after _ []) (sym (fields_start _)))
 
 sub-comparison : tie.Need-overflow-sub-comparison invariant-loop decreases-loop
 sub-comparison c = search rules
@@ -107,21 +107,21 @@ enum-known-cause : tie.Need-enum-known-cause invariant-loop decreases-loop
 enum-known-cause c = search rules
 
 returns : tie.Need-returns invariant-loop decreases-loop
-unfolding comparisonsField conditionRead comparisonRead ◌>>=◌
+unfolding comparisons_field condition_read comparison_read ◌>>=◌
 returns c =
     let k = c.before.before.before in
-    let r = comma-refused (comparisonField (correlation-of k)) (left k) _ (comparison-is k _ c.before.cause.given.1) in
-    sym (rw (by-comparison k ∙ after-refused (correlation-of k) (held k) (before comma (left k)) _ _ r))
+    let r = comma_refused (comparison_field (correlation_of k)) (left k) _ (comparison_is k _ c.before.cause.given.1) in
+    sym (rw (by_comparison k ∙ after_refused (correlation_of k) (held k) (before comma (left k)) _ _ r))
 
 enum-known-next : tie.Need-enum-known-next invariant-loop decreases-loop
 enum-known-next c = search rules
 
 returns-2 : tie.Need-returns-2 invariant-loop decreases-loop
-unfolding comparisonsField conditionRead ◌>>=◌ number_of
+unfolding comparisons_field condition_read ◌>>=◌ number_of
 returns-2 c =
     let k = c.before.before.before.before.before in
     let a = c.before.before.before.next.given in
-    sym (rw (by-comparison k ∙ after-full (correlation-of k) (held k) (before comma (left k)) _ _ (holds k _ _ a.1) (omega (arith, count-is k, c.if1.true))))
+    sym (rw (by_comparison k ∙ after_full (correlation_of k) (held k) (before comma (left k)) _ _ (holds k _ _ a.1) (omega (arith, count_is k, c.if1.true))))
 
 with-requires : tie.Need-with-requires invariant-loop decreases-loop
 with-requires c κs = omega (arith, c.if1.false)
@@ -146,19 +146,19 @@ loop-again c =
     let k = c.before.before.before.before.before.before in
     let a = c.before.before.before.before.next.given in
     let d = a.0.0 in
-    let l : length (held k) < 4 = omega (arith, count-is k, c.before.if1.false) in
-    let e : comparisonsOf c.with.result ≡ held k ++ (d ∷ []) = ap comparisonsOf c.with.ensures ∙ held_more k d _ a.1 l in (
+    let l : length (held k) < 4 = omega (arith, count_is k, c.before.if1.false) in
+    let e : comparisons_of c.with.result ≡ held k ++ (d ∷ []) = ap comparisons_of c.with.ensures ∙ held_more k d _ a.1 l in (
       omega (arith, within k _ _ a.1),
-      c.with.ensures ∙ ap conditionOf (sym e),
-      by-comparison k ∙ after_next (correlation-of k) (held k) (before comma (left k)) _ d (holds k d _ a.1) l ∙ rw (length-is k d _ a.1, e),
+      c.with.ensures ∙ ap condition_of (sym e),
+      by_comparison k ∙ after_next (correlation_of k) (held k) (before comma (left k)) _ d (holds k d _ a.1) l ∙ rw (length_is k d _ a.1, e),
     )
 
 returns-3 : tie.Need-returns-3 invariant-loop decreases-loop
-unfolding comparisonsField comparisonsAfter conditionRead ◌>>=◌
+unfolding comparisons_field comparisons_after condition_read ◌>>=◌
 returns-3 c =
     let o = c.before.loop in
     let a = c.before.before.before.before.args in
-    let e : comparisonsAfter a.correlation [] (split comma a.field.now) ≡ accepted (comparisonsOf o.condition) = o.invariant.2 ∙ rw (fields-end a.field.now o.at c.loop-test.false) in
+    let e : comparisons_after a.correlation [] (split comma a.field.now) ≡ accepted (comparisons_of o.condition) = o.invariant.2 ∙ rw (fields_end a.field.now o.at c.loop-test.false) in
     ap accepted o.invariant.1 ∙ sym (rw e)
 
 pub comparisons-spec : {M : Type 1} → statement M

@@ -2,8 +2,8 @@
 use mathlib.Core.Path.{sym, ◌∙◌, ap}
 use Prim.Native.Nat.{ℕ}
 use lib.ListN.{take}
-use Rattle.line.proofs.Fields.{before-take}
-use Rattle.rule_text.specs.Conditions.{conditionField}
+use Rattle.line.proofs.Fields.{before_take}
+use Rattle.rule_text.specs.Conditions.{condition_field}
 use borrow.Author.Rules.{rules}
 use Rattle.rule_text.proofs.condition.condition_field.Statement.{statement}
 use Rattle.rule_text.proofs.condition.condition_field.Tie as tie
@@ -21,7 +21,7 @@ returns : tie.Need-returns
 returns c =
     let a = c.before.before.before.before.args in (
       c.condition.ensures
-          ∙ ap (conditionField a.correlation) (c.before.part-before.ensures ∙ ap (λ (n : ℕ). take n a.part.now) c.before.before.find.ensures ∙ sym (before-take a.separator a.part.now)),
+          ∙ ap (condition_field a.correlation) (c.before.part-before.ensures ∙ ap (λ (n : ℕ). take n a.part.now) c.before.before.find.ensures ∙ sym (before_take a.separator a.part.now)),
       c.before.before.find.ensures,
     )
 

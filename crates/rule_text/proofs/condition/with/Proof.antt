@@ -1,8 +1,8 @@
 -- `condition::with`, by the count.
 use mathlib.Core.Path.{◌≡◌, ◌∙◌}
 use native.Mathlib.Omega.{arith}
-use Rattle.declare.specs.Conditions.{comparisonsOf}
-use Rattle.rule_text.specs.Conditions.{conditionOf}
+use Rattle.declare.specs.Conditions.{comparisons_of}
+use Rattle.rule_text.specs.Conditions.{condition_of}
 use borrow.Author.Rules.{rules}
 use Rattle.rule_text.proofs.condition.with.Statement.{statement}
 use Rattle.rule_text.proofs.condition.with.Tie as tie
@@ -28,19 +28,19 @@ slots-requires-4 : tie.Need-slots-requires-4
 slots-requires-4 c κs = search rules
 
 returns : tie.Need-returns
-unfolding comparisonsOf conditionOf
+unfolding comparisons_of condition_of
 returns c = c.slots.ensures ∙ rw (c.before.before.before.before.before.no-comparison.ensures, c.before.match.keys1)
 
 returns-2 : tie.Need-returns-2
-unfolding comparisonsOf conditionOf
+unfolding comparisons_of condition_of
 returns-2 c = c.slots2.ensures ∙ rw (c.before.before.before.before.before.no-comparison.ensures, c.before.match.keys2)
 
 returns-3 : tie.Need-returns-3
-unfolding comparisonsOf conditionOf
+unfolding comparisons_of condition_of
 returns-3 c = c.slots3.ensures ∙ rw (c.before.before.before.before.before.no-comparison.ensures, c.before.match.keys3)
 
 returns-4 : tie.Need-returns-4
-unfolding comparisonsOf conditionOf
+unfolding comparisons_of condition_of
 returns-4 c = c.slots4.ensures ∙ rw (three c.before)
 
 pub with-spec : {M : Type 1} → statement M

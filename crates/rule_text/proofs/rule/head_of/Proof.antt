@@ -1,8 +1,8 @@
 -- `rule::head_of`: the first refusal, or all five values.
 use mathlib.Core.Path.{ap}
 use Rattle.declare.specs.Answers.{◌>>=◌}
-use Rattle.line.specs.Values.{naturalAnswer, byteRead}
-use Rattle.rule_text.specs.Reads.{endRead, headRead, headBy}
+use Rattle.line.specs.Values.{natural_answer, byte_read}
+use Rattle.rule_text.specs.Reads.{end_read, head_read, head_by}
 use borrow.Author.Rules.{rules}
 use Rattle.rule_text.proofs.rule.head_of.Statement.{statement}
 use Rattle.rule_text.proofs.rule.head_of.Tie as tie
@@ -17,8 +17,8 @@ refusal-of-requires : tie.Need-refusal-of-requires
 refusal-of-requires c κs = search rules
 
 returns : tie.Need-returns
-unfolding headRead headBy byteRead naturalAnswer endRead ◌>>=◌
-returns c = rw (ap byteRead c.before.before.code2.given.1, c.refusal-of.ensures)
+unfolding head_read head_by byte_read natural_answer end_read ◌>>=◌
+returns c = rw (ap byte_read c.before.before.code2.given.1, c.refusal-of.ensures)
 
 enum-known-activation : tie.Need-enum-known-activation
 enum-known-activation c = search rules
@@ -30,8 +30,8 @@ refusal-of-requires-2 : tie.Need-refusal-of-requires-2
 refusal-of-requires-2 c κs = search rules
 
 returns-2 : tie.Need-returns-2
-unfolding headRead headBy byteRead naturalAnswer endRead ◌>>=◌
-returns-2 c = rw (ap byteRead c.before.before.before.before.before.code.given.1, ap byteRead c.before.before.activation2.given.1, c.refusal-of2.ensures)
+unfolding head_read head_by byte_read natural_answer end_read ◌>>=◌
+returns-2 c = rw (ap byte_read c.before.before.before.before.before.code.given.1, ap byte_read c.before.before.activation2.given.1, c.refusal-of2.ensures)
 
 enum-known-target : tie.Need-enum-known-target
 enum-known-target c = search rules
@@ -43,8 +43,8 @@ refusal-of-requires-3 : tie.Need-refusal-of-requires-3
 refusal-of-requires-3 c κs = search rules
 
 returns-3 : tie.Need-returns-3
-unfolding headRead headBy byteRead naturalAnswer endRead ◌>>=◌
-returns-3 c = rw (ap byteRead c.before.before.before.before.before.before.before.before.code.given.1, ap byteRead c.before.before.before.before.before.activation.given.1, ap byteRead c.before.before.target2.given.1, c.refusal-of3.ensures)
+unfolding head_read head_by byte_read natural_answer end_read ◌>>=◌
+returns-3 c = rw (ap byte_read c.before.before.before.before.before.before.before.before.code.given.1, ap byte_read c.before.before.before.before.before.activation.given.1, ap byte_read c.before.before.target2.given.1, c.refusal-of3.ensures)
 
 enum-known-from : tie.Need-enum-known-from
 enum-known-from c = search rules
@@ -56,8 +56,8 @@ refusal-of-requires-4 : tie.Need-refusal-of-requires-4
 refusal-of-requires-4 c κs = search rules
 
 returns-4 : tie.Need-returns-4
-unfolding headRead headBy byteRead naturalAnswer endRead ◌>>=◌
-returns-4 c = rw (ap byteRead c.before.before.before.before.before.before.before.before.before.before.before.code.given.1, ap byteRead c.before.before.before.before.before.before.before.before.activation.given.1, ap byteRead c.before.before.before.before.before.target.given.1, ap naturalAnswer c.before.before.from2.given.1, c.refusal-of4.ensures)
+unfolding head_read head_by byte_read natural_answer end_read ◌>>=◌
+returns-4 c = rw (ap byte_read c.before.before.before.before.before.before.before.before.before.before.before.code.given.1, ap byte_read c.before.before.before.before.before.before.before.before.activation.given.1, ap byte_read c.before.before.before.before.before.target.given.1, ap natural_answer c.before.before.from2.given.1, c.refusal-of4.ensures)
 
 enum-known-until : tie.Need-enum-known-until
 enum-known-until c = search rules
@@ -69,12 +69,12 @@ refusal-of-requires-5 : tie.Need-refusal-of-requires-5
 refusal-of-requires-5 c κs = search rules
 
 returns-5 : tie.Need-returns-5
-unfolding headRead headBy byteRead naturalAnswer endRead ◌>>=◌
-returns-5 c = rw (ap byteRead c.before.before.before.before.before.before.before.before.before.before.before.before.before.code.given.1, ap byteRead c.before.before.before.before.before.before.before.before.before.before.activation.given.1, ap byteRead c.before.before.before.before.before.before.before.target.given.1, ap naturalAnswer c.before.before.before.before.from.given.1, ap endRead c.before.until.given.1)
+unfolding head_read head_by byte_read natural_answer end_read ◌>>=◌
+returns-5 c = rw (ap byte_read c.before.before.before.before.before.before.before.before.before.before.before.before.before.code.given.1, ap byte_read c.before.before.before.before.before.before.before.before.before.before.activation.given.1, ap byte_read c.before.before.before.before.before.before.before.target.given.1, ap natural_answer c.before.before.before.before.from.given.1, ap end_read c.before.until.given.1)
 
 returns-6 : tie.Need-returns-6
-unfolding headRead headBy byteRead naturalAnswer endRead ◌>>=◌
-returns-6 c = rw (ap byteRead c.before.before.before.before.before.before.before.before.before.before.before.before.before.before.code.given.1, ap byteRead c.before.before.before.before.before.before.before.before.before.before.before.activation.given.1, ap byteRead c.before.before.before.before.before.before.before.before.target.given.1, ap naturalAnswer c.before.before.before.before.before.from.given.1, ap endRead c.before.before.until2.given.1, c.refusal-of5.ensures)
+unfolding head_read head_by byte_read natural_answer end_read ◌>>=◌
+returns-6 c = rw (ap byte_read c.before.before.before.before.before.before.before.before.before.before.before.before.before.before.code.given.1, ap byte_read c.before.before.before.before.before.before.before.before.before.before.before.activation.given.1, ap byte_read c.before.before.before.before.before.before.before.before.target.given.1, ap natural_answer c.before.before.before.before.before.from.given.1, ap end_read c.before.before.until2.given.1, c.refusal-of5.ensures)
 
 pub head-of-spec : {M : Type 1} → statement M
 head-of-spec =

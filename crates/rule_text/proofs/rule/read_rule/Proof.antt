@@ -2,8 +2,8 @@
 use mathlib.Core.Path.{◌≡◌, refl, sym, ◌∙◌}
 use mathlib.Core.List.{List}
 use Prim.Native.Nat.{ℕ}
-use Rattle.line.proofs.Lines.{partAfter, passed}
-use Rattle.rule_text.proofs.Lines.{by-answers}
+use Rattle.line.proofs.Lines.{part_after, passed}
+use Rattle.rule_text.proofs.Lines.{by_answers}
 use borrow.Author.Rules.{rules}
 use Rattle.rule_text.proofs.rule.read_rule.Statement.{statement}
 use Rattle.rule_text.proofs.rule.read_rule.Tie as tie
@@ -12,22 +12,22 @@ abbrev part0 : tie.After-byte-field → List ℕ
 part0 c = c.before.before.args.part.now
 
 -- the part that begins at each further field
-part1 : (c : tie.After-rest-of) → c.rest_of.result.now ≡ partAfter 1 (part0 c.before)
+part1 : (c : tie.After-rest-of) → c.rest_of.result.now ≡ part_after 1 (part0 c.before)
 part1 c = c.rest_of.ensures ∙ passed 0 _ _ _ refl c.before.byte-field.ensures.1
 
-part2 : (c : tie.After-rest-of2) → c.rest-of2.result.now ≡ partAfter 2 (part0 c.before.before.before)
+part2 : (c : tie.After-rest-of2) → c.rest-of2.result.now ≡ part_after 2 (part0 c.before.before.before)
 part2 c = c.rest-of2.ensures ∙ passed 1 _ _ _ (part1 c.before.before) c.before.byte-field2.ensures.1
 
-part3 : (c : tie.After-rest-of3) → c.rest-of3.result.now ≡ partAfter 3 (part0 c.before.before.before.before.before)
+part3 : (c : tie.After-rest-of3) → c.rest-of3.result.now ≡ part_after 3 (part0 c.before.before.before.before.before)
 part3 c = c.rest-of3.ensures ∙ passed 2 _ _ _ (part2 c.before.before) c.before.byte-field3.ensures.1
 
-part4 : (c : tie.After-rest-of4) → c.rest-of4.result.now ≡ partAfter 4 (part0 c.before.before.before.before.before.before.before)
+part4 : (c : tie.After-rest-of4) → c.rest-of4.result.now ≡ part_after 4 (part0 c.before.before.before.before.before.before.before)
 part4 c = c.rest-of4.ensures ∙ passed 3 _ _ _ (part3 c.before.before) c.before.number-field.ensures.1
 
-part5 : (c : tie.After-rest-of5) → c.rest-of5.result.now ≡ partAfter 5 (part0 c.before.before.before.before.before.before.before.before.before)
+part5 : (c : tie.After-rest-of5) → c.rest-of5.result.now ≡ part_after 5 (part0 c.before.before.before.before.before.before.before.before.before)
 part5 c = c.rest-of5.ensures ∙ passed 4 _ _ _ (part4 c.before.before) c.before.end-field.ensures.1
 
-part6 : (c : tie.After-rest-of6) → c.rest-of6.result.now ≡ partAfter 6 (part0 c.before.before.before.before.before.before.before.before.before.before.before)
+part6 : (c : tie.After-rest-of6) → c.rest-of6.result.now ≡ part_after 6 (part0 c.before.before.before.before.before.before.before.before.before.before.before)
 part6 c = c.rest-of6.ensures ∙ passed 5 _ _ _ (part5 c.before.before) c.before.condition-field.ensures.1
 
 byte-field-requires : tie.Need-byte-field-requires
@@ -85,7 +85,7 @@ returns c =
     let activation = target.before.before in
     let code = activation.before.before in
     rw (c.rule-of.ensures, c.before.head_of.ensures, code.byte-field.ensures.0, activation.byte-field2.ensures.0, target.byte-field3.ensures.0, from.number-field.ensures.0, until.end-field.ensures.0, condition.condition-field.ensures.0, correlation.condition-field2.ensures.0, part1 activation.before, part2 target.before, part3 from.before, part4 until.before, part5 condition.before, part6 correlation.before)
-    (sym (by-answers (part0 code)))
+    (sym (by_answers (part0 code)))
 
 pub read-rule-spec : {M : Type 1} → statement M
 read-rule-spec =

@@ -3,10 +3,10 @@ use mathlib.Core.Path.{sym, ◌∙◌, ap}
 use Prim.Native.Nat.{ℕ, ◌+◌}
 use native.Mathlib.Omega.{arith}
 use Rattle.declare.specs.Refusals.{number_of}
-use Rattle.line.proofs.Lines.{end_is, end-within, no-line-end, other-count, fields-of}
-use Rattle.rule_text.specs.Rules.{ruleOf}
-use Rattle.rule_text.specs.Reads.{ruleRead}
-use Rattle.rule_text.proofs.Lines.{field-count}
+use Rattle.line.proofs.Lines.{end_is, end_within, no_line_end, other_count, fields_of_lem}
+use Rattle.rule_text.specs.Rules.{rule_of}
+use Rattle.rule_text.specs.Reads.{rule_read}
+use Rattle.rule_text.proofs.Lines.{field_count}
 use borrow.Author.Rules.{rules}
 use Rattle.rule_text.proofs.rule.rule_line.Statement.{statement}
 use Rattle.rule_text.proofs.rule.rule_line.Tie as tie
@@ -15,19 +15,19 @@ scan-line-requires : tie.Need-scan-line-requires
 scan-line-requires c κs = search rules
 
 add-next : tie.Need-overflow-add-next
-add-next c = omega (arith, end-within _ _ c.scan-line.ensures, c.before.before.well-formed)
+add-next c = omega (arith, end_within _ _ c.scan-line.ensures, c.before.before.well-formed)
 
 returns : tie.Need-returns
-unfolding ruleRead number_of
+unfolding rule_read number_of
 returns c =
     let scan = c.before.scan-line.ensures in
-    (sym (no-line-end _ _ scan ruleOf c.if1.true), ap (λ (n : ℕ). n + 1) (end_is _ _ scan))
+    (sym (no_line_end _ _ scan rule_of c.if1.true), ap (λ (n : ℕ). n + 1) (end_is _ _ scan))
 
 returns-2 : tie.Need-returns-2
-unfolding ruleRead number_of
+unfolding rule_read number_of
 returns-2 c =
     let scan = c.before.before.before.scan-line.ensures in
-    (sym (other-count _ _ scan ruleOf c.before.before.if1.false 6 field-count c.if2.true), ap (λ (n : ℕ). n + 1) (end_is _ _ scan))
+    (sym (other_count _ _ scan rule_of c.before.before.if1.false 6 field_count c.if2.true), ap (λ (n : ℕ). n + 1) (end_is _ _ scan))
 
 read-rule-requires : tie.Need-read-rule-requires
 read-rule-requires c κs = search rules
@@ -35,7 +35,7 @@ read-rule-requires c κs = search rules
 returns-3 : tie.Need-returns-3
 returns-3 c =
     let scan = c.before.before.before.before.scan-line.ensures in
-    (c.read-rule.ensures ∙ sym (fields-of _ _ scan ruleOf c.before.before.before.if1.false 6 c.before.if2.false), ap (λ (n : ℕ). n + 1) (end_is _ _ scan))
+    (c.read-rule.ensures ∙ sym (fields_of_lem _ _ scan rule_of c.before.before.before.if1.false 6 c.before.if2.false), ap (λ (n : ℕ). n + 1) (end_is _ _ scan))
 
 pub rule-line-spec : {M : Type 1} → statement M
 rule-line-spec =

@@ -5,12 +5,12 @@ use mathlib.Core.List.{List}
 use Prim.Native.Nat.{ℕ}
 use borrow.Author.Rules.{rules}
 use Rattle.standings.specs.declared.Cell.{Cell}
-use Rattle.judge.specs.Cells.{judgedCells, judgedOverall}
+use Rattle.judge.specs.Cells.{judged_cells, judged_overall}
 use Rattle.run.specs.declared.Run.{Run}
 use Rattle.run.specs.declared.Outcome.TheVariants.{Done}
-use Rattle.run.specs.Records.{eventsOf, withEvents, withClock, withStandings, withTotals, counted}
-use Rattle.run.specs.Calls.{judgedRun}
-use Rattle.run.proofs.Stored.{counted-by}
+use Rattle.run.specs.Records.{events_of, with_events, with_clock, with_standings, with_totals, counted}
+use Rattle.run.specs.Calls.{judged_run}
+use Rattle.run.proofs.Stored.{counted_by_lem}
 use Rattle.run.proofs.Run.accepted.Statement.{statement}
 use Rattle.run.proofs.Run.accepted.Tie as tie
 
@@ -24,19 +24,19 @@ judge-cells-requires : tie.Need-judge-cells-requires
 judge-cells-requires c κs = search rules
 
 returns : tie.Need-returns
-unfolding judgedRun eventsOf
+unfolding judged_run events_of
 returns c =
     let cells = c.before.before.judge-cells in
     let begun = c.before.before.before.zero-totals in
     let overall = c.before.before.before.before.judge-overall in
     let start = c.before.before.before.before.before.before.before.before.before in
     let a = start.args in
-    let r : Run = withClock (withEvents a.self a.count a.events) a.clock in
-    let next : Run = withStandings r cells.result.cells overall.result in
+    let r : Run = with_clock (with_events a.self a.count a.events) a.clock in
+    let next : Run = with_standings r cells.result.cells overall.result in
     ap (λ (run : Run). record { outcome = Done; run = run })
-    (ap (withTotals next) (counted-by next begun.ensures cells.ensures.1)
-    ∙ ap₂ (λ (x y : List Cell). counted (withStandings r x y)) (cells.ensures.0 ∙ ap (λ (h : ℕ). judgedCells true r.table r.events r.count h r.cells) start.requires)
-    (overall.ensures ∙ ap (λ (h : ℕ). judgedOverall true r.table r.events r.count h r.overall) start.requires))
+    (ap (with_totals next) (counted_by_lem next begun.ensures cells.ensures.1)
+    ∙ ap₂ (λ (x y : List Cell). counted (with_standings r x y)) (cells.ensures.0 ∙ ap (λ (h : ℕ). judged_cells true r.table r.events r.count h r.cells) start.requires)
+    (overall.ensures ∙ ap (λ (h : ℕ). judged_overall true r.table r.events r.count h r.overall) start.requires))
 
 pub accepted-spec : {M : Type 1} → statement M
 accepted-spec =

@@ -7,13 +7,13 @@ use borrow.Author.Rules.{rules}
 use Rattle.declare.specs.declared.Event.{Event}
 use Rattle.declare.specs.declared.Table.{Table}
 use Rattle.standings.specs.declared.Cell.{Cell}
-use Rattle.standings.specs.Totals.{zeroTotals}
-use Rattle.judge.specs.Cells.{judgedCells, judgedOverall}
+use Rattle.standings.specs.Totals.{zero_totals}
+use Rattle.judge.specs.Cells.{judged_cells, judged_overall}
 use Rattle.run.specs.declared.Run.{Run}
-use Rattle.run.specs.Records.{withEvents, withStandings, asClosed, withTotals, counted}
-use Rattle.run.specs.Start.{idleRun}
-use Rattle.run.specs.Close.{finishedRun}
-use Rattle.run.proofs.Stored.{counted-by}
+use Rattle.run.specs.Records.{with_events, with_standings, as_closed, with_totals, counted}
+use Rattle.run.specs.Start.{idle_run}
+use Rattle.run.specs.Close.{finished_run}
+use Rattle.run.proofs.Stored.{counted_by_lem}
 use Rattle.run.proofs.Run.finished.Statement.{statement}
 use Rattle.run.proofs.Run.finished.Tie as tie
 
@@ -37,10 +37,10 @@ judge-cells-requires c κs = search rules
 
 -- the closed run of these standings, not counted yet
 abbrev bare : Table → ℕ → List Event → List Cell → List Cell → Run
-bare t n events cells overall = asClosed (withStandings (withEvents (idleRun t) n events) cells overall)
+bare t n events cells overall = as_closed (with_standings (with_events (idle_run t) n events) cells overall)
 
 returns : tie.Need-returns
-unfolding idleRun finishedRun
+unfolding idle_run finished_run
 returns c =
     let cells = c.before.before.judge-cells in
     let idle = c.before.before.before.idle-cells in
@@ -50,8 +50,8 @@ returns c =
     let zeros = c.before.before.before.before.before.before.before.idle-overall in
     let a = c.before.before.before.before.before.before.before.before.args in
     let next : Run = bare a.table a.count a.events cells.result.cells overall.result in
-    ap (withTotals next) (counted-by next (begun.ensures ∙ ap (zeroTotals a.table overall.result) none.ensures) cells.ensures.1)
-    ∙ ap₂ (λ (x y : List Cell). counted (bare a.table a.count a.events x y)) (cells.ensures.0 ∙ ap (judgedCells false a.table a.events a.count 0) idle.ensures) (overall.ensures ∙ ap (judgedOverall false a.table a.events a.count 0) zeros.ensures)
+    ap (with_totals next) (counted_by_lem next (begun.ensures ∙ ap (zero_totals a.table overall.result) none.ensures) cells.ensures.1)
+    ∙ ap₂ (λ (x y : List Cell). counted (bare a.table a.count a.events x y)) (cells.ensures.0 ∙ ap (judged_cells false a.table a.events a.count 0) idle.ensures) (overall.ensures ∙ ap (judged_overall false a.table a.events a.count 0) zeros.ensures)
 
 pub finished-spec : {M : Type 1} → statement M
 finished-spec =

@@ -13,39 +13,39 @@ use Rattle.declare.specs.declared.Event.{Event}
 use Rattle.declare.specs.declared.Standing.{Standing}
 use Rattle.declare.specs.declared.Standing.TheVariants.{Idle}
 use Rattle.declare.specs.declared.Table.{Table}
-use Rattle.declare.specs.Limits.{mostRules, mostEvents}
-use Rattle.declare.specs.Rules.{noComparison, noCondition, noRule}
-use Rattle.declare.specs.Standings.{isIdle}
-use Rattle.declare.proofs.Carried.{only-idle}
-use Rattle.declare.proofs.Sweeps.{Swept, swept_none, swept_at, swept-again, swept_kept, swept-skip, swept_all}
+use Rattle.declare.specs.Limits.{most_rules, most_events}
+use Rattle.declare.specs.Rules.{no_comparison, no_condition, no_rule}
+use Rattle.declare.specs.Standings.{is_idle}
+use Rattle.declare.proofs.Carried.{only_idle}
+use Rattle.declare.proofs.Sweeps.{Swept, swept_none, swept_at, swept_again, swept_kept, swept_skip, swept_all}
 use Rattle.standings.specs.declared.Cell.{Cell}
 use Rattle.standings.specs.declared.totals.Totals.{Totals}
-use Rattle.standings.specs.Places.{places, idleCell, changedCell, changed}
-use Rattle.standings.proofs.Places.{rules-rest}
-use Rattle.standings.proofs.Counting.{Counting, counting-none, counting-idle, counting-set, counting-all}
-use Rattle.run.specs.Close.{closedAt, closedCells, IdlePast}
-use Rattle.run.proofs.Closing.{cell-unused, cell-idle, cell-closed}
+use Rattle.standings.specs.Places.{places, idle_cell, changed_cell, changed}
+use Rattle.standings.proofs.Places.{rules_rest}
+use Rattle.standings.proofs.Counting.{Counting, counting_none, counting_idle, counting_set, counting_all}
+use Rattle.run.specs.Close.{closed_at, closed_cells, IdlePast}
+use Rattle.run.proofs.Closing.{cell_unused, cell_idle, cell_closed}
 use Rattle.run.proofs.close.closed_cells.Statement.{statement}
 use Rattle.run.proofs.close.closed_cells.Tie as tie
 
 -- of n events, before place j
 pub record Closed (t : Table) (l a : List Cell) (begun now : List Totals) (j n : ℕ) : Type 0 where
-  pub cells : (es : List Event) → Swept (changedCell (closedAt t es) t.count n) l a j
+  pub cells : (es : List Event) → Swept (changed_cell (closed_at t es) t.count n) l a j
   pub totals : Counting n a begun now j
 
 abbrev invariant-loop : tie.invariant-loop
 invariant-loop table cells₀ totals₀ end j₀ cells totals j =
-    (j ≤ table.count * mostEvents)
-    × ((n : ℕ) → n ≤ mostEvents → IdlePast table n cells₀ → Closed table cells₀ cells totals₀ totals j n)
+    (j ≤ table.count * most_events)
+    × ((n : ℕ) → n ≤ most_events → IdlePast table n cells₀ → Closed table cells₀ cells totals₀ totals j n)
 
 abbrev decreases-loop : tie.decreases-loop
-decreases-loop table cells₀ totals₀ end j₀ cells totals j = table.count * mostEvents - j
+decreases-loop table cells₀ totals₀ end j₀ cells totals j = table.count * most_events - j
 
 full : (c : tie.Start invariant-loop decreases-loop) → length c.args.t2 ≡ places
 full c = search rules
 
 -- one slot a rule
-slots : (c : tie.Start invariant-loop decreases-loop) → length c.args.t3 ≡ mostRules
+slots : (c : tie.Start invariant-loop decreases-loop) → length c.args.t3 ≡ most_rules
 slots c = search rules
 
 mul-end : tie.Need-overflow-mul-end invariant-loop decreases-loop
@@ -53,7 +53,7 @@ mul-end c = search rules
 
 loop-holds : tie.Need-loop-init invariant-loop decreases-loop
 loop-holds c =
-    (omega arith, λ n few past. record { cells = λ es. swept_none _ _; totals = counting-none _ _ _ (full c) (slots c) })
+    (omega arith, λ n few past. record { cells = λ es. swept_none _ _; totals = counting_none _ _ _ (full c) (slots c) })
 
 mul-c : tie.Need-overflow-mul-c invariant-loop decreases-loop
 mul-c c = search rules
@@ -74,16 +74,16 @@ loop-again : tie.Need-loop-preserved invariant-loop decreases-loop
 loop-again c =
     let l = c.before.before.before.before.loop in
     let start = c.before.before.before.before.before in
-    let s : Standing = (get_or l.cells l.j idleCell).standing in
-    let idle : s ≡ Idle = only-idle s (sym c.before.is-idle.ensures ∙ c.if1.true) in
+    let s : Standing = (get_or l.cells l.j idle_cell).standing in
+    let idle : s ≡ Idle = only_idle s (sym c.before.is-idle.ensures ∙ c.if1.true) in
     let low : l.j < places = omega (arith, start.requires) in
     let size = full start in (
       omega arith,
       λ n few past.
           let done = l.invariant.1 n few past in
           record {
-            cells = λ es. swept_kept (done.cells es) idleCell (omega (arith, low, size)) (cell-idle start.args.t1 es n l.j _ idle);
-            totals = counting-idle done.totals few low idle;
+            cells = λ es. swept_kept (done.cells es) idle_cell (omega (arith, low, size)) (cell_idle start.args.t1 es n l.j _ idle);
+            totals = counting_idle done.totals few low idle;
           },
     )
 
@@ -124,17 +124,17 @@ loop-less-2 : tie.Need-loop-smaller-2 invariant-loop decreases-loop
 loop-less-2 c = search rules
 
 -- a cell that is not idle is of one of the events
-used : (t : Table) (l a : List Cell) (begun now : List Totals) (j n : ℕ) (es : List Event) → Closed t l a begun now j n → IdlePast t n l → j < t.count * mostEvents → isIdle (get_or a j idleCell).standing ≡ false → j % mostEvents < n
-used t l a begun now j n es s past low active = go (ltb (j % mostEvents) n) refl
+used : (t : Table) (l a : List Cell) (begun now : List Totals) (j n : ℕ) (es : List Event) → Closed t l a begun now j n → IdlePast t n l → j < t.count * most_events → is_idle (get_or a j idle_cell).standing ≡ false → j % most_events < n
+used t l a begun now j n es s past low active = go (ltb (j % most_events) n) refl
   where
-    go : (b : Bool) → ltb (j % mostEvents) n ≡ b → j % mostEvents < n
-    go true q = ltb-true (j % mostEvents) n q
+    go : (b : Bool) → ltb (j % most_events) n ≡ b → j % most_events < n
+    go true q = ltb-true (j % most_events) n q
     go false q =
-        let was = ap (λ (c : Cell). isIdle c.standing) (swept_at (s.cells es) idleCell) ∙ ap isIdle (past j low (ltb-false (j % mostEvents) n q)) in
+        let was = ap (λ (c : Cell). is_idle c.standing) (swept_at (s.cells es) idle_cell) ∙ ap is_idle (past j low (ltb-false (j % most_events) n q)) in
         absurd (true≢false (sym was ∙ active))
 
 loop-again-2 : tie.Need-loop-preserved-2 invariant-loop decreases-loop
-unfolding noRule noCondition noComparison
+unfolding no_rule no_condition no_comparison
 loop-again-2 c =
     let here = c.before.before.before.before in
     let l = here.before.before.before.before.loop in
@@ -148,13 +148,13 @@ loop-again-2 c =
           let done = l.invariant.1 n few past in
           let p = used a.t1 a.t2 _ _ _ l.j n [] done past (omega arith) active in
           record {
-            cells = λ es. swept-again (done.cells es) idleCell (omega (arith, low, size)) (cell-closed a.t1 es n l.j _ (omega arith) p c.before.before.closed.ensures);
-            totals = counting-set done.totals few low p _ c.with-standing.ensures;
+            cells = λ es. swept_again (done.cells es) idle_cell (omega (arith, low, size)) (cell_closed a.t1 es n l.j _ (omega arith) p c.before.before.closed.ensures);
+            totals = counting_set done.totals few low p _ c.with-standing.ensures;
           },
     )
 
 returns : tie.Need-returns invariant-loop decreases-loop
-unfolding closedCells changed
+unfolding closed_cells changed
 returns c =
     let l = c.before.loop in
     let start = c.before.before in
@@ -162,8 +162,8 @@ returns c =
     let rules = start.args.t1.count in
     record {
       cells =
-          λ es n few past. swept_all (swept-skip ((l.invariant.1 n few past).cells es) places (omega (arith, start.requires)) (λ i a b x. cell-unused _ es _ i x (rules-rest _ _ i (omega arith)))) (omega (arith, size));
-      totals = λ n few past. counting-all (l.invariant.1 n few past).totals few rules (slots start) (omega (arith, start.requires));
+          λ es n few past. swept_all (swept_skip ((l.invariant.1 n few past).cells es) places (omega (arith, start.requires)) (λ i a b x. cell_unused _ es _ i x (rules_rest _ _ i (omega arith)))) (omega (arith, size));
+      totals = λ n few past. counting_all (l.invariant.1 n few past).totals few rules (slots start) (omega (arith, start.requires));
     }
 
 pub closed-cells-spec : {M : Type 1} → statement M

@@ -5,8 +5,8 @@ use mathlib.Core.List.{List}
 use mathlib.Core.Logic.{⊎_elim}
 use Prim.Native.Nat.{ℕ, ◌≤◌, ◌<◌, ◌-◌, ◌+◌}
 use native.Mathlib.Omega.{arith}
-use Rattle.declare.specs.Rules.{noComparison, noCondition, noRule}
-use Rattle.run.proofs.Checks.{Counted, counted_none, counted-zero, counted-kept}
+use Rattle.declare.specs.Rules.{no_comparison, no_condition, no_rule}
+use Rattle.run.proofs.Checks.{Counted, counted_none, counted_zero, counted_kept}
 use borrow.Author.Rules.{rules}
 use Rattle.run.proofs.record.events_judged.Statement.{statement}
 use Rattle.run.proofs.record.events_judged.Tie as tie
@@ -42,16 +42,16 @@ loop-less : tie.Need-loop-smaller invariant-loop decreases-loop
 loop-less c = search rules
 
 loop-again : tie.Need-loop-preserved invariant-loop decreases-loop
-unfolding noRule noCondition noComparison
+unfolding no_rule no_condition no_comparison
 loop-again c =
     let l = c.before.before.before.before.loop in
     let a = c.before.before.before.before.before.args in
     let low : l.k < 16 = omega (arith, c.before.before.before.before.before.requires) in
-    let says = sym c.before.is-overall.ensures in (
+    let says = sym c.before.is_overall_lem.ensures in (
       omega arith,
       ⊎_elim
-          (λ w. subst (λ (u : List ℕ). Counted a.t1 a.count u (l.k + 1)) (sym w.1) (counted-zero a.t1 a.count l.invariant.1 low (says ∙ w.0.taken)))
-          (λ w. subst (λ (u : List ℕ). Counted a.t1 a.count u (l.k + 1)) (sym w.1) (counted-kept a.t1 a.count l.invariant.1 low (says ∙ w.0.left)))
+          (λ w. subst (λ (u : List ℕ). Counted a.t1 a.count u (l.k + 1)) (sym w.1) (counted_zero a.t1 a.count l.invariant.1 low (says ∙ w.0.taken)))
+          (λ w. subst (λ (u : List ℕ). Counted a.t1 a.count u (l.k + 1)) (sym w.1) (counted_kept a.t1 a.count l.invariant.1 low (says ∙ w.0.left)))
           c.if1.branch,
     )
 

@@ -8,21 +8,21 @@ use borrow.Author.Tests.{not-true, not-false}
 use lib.ListN.{get_or}
 use Rattle.declare.specs.declared.Table.{Table}
 use Rattle.declare.specs.Lists.{all_below}
-use Rattle.declare.specs.Overall.{isOverall}
-use Rattle.declare.specs.Rules.{noComparison, noCondition, noRule, isOverallRule}
+use Rattle.declare.specs.Overall.{is_overall}
+use Rattle.declare.specs.Rules.{no_comparison, no_condition, no_rule, is_overall_rule}
 use Rattle.declare.proofs.Booleans.{fails}
-use Rattle.declare.proofs.Sweeps.{all_none, all-again}
-use Rattle.declare.proofs.Lists.{all-each}
+use Rattle.declare.proofs.Sweeps.{all_none, all_again}
+use Rattle.declare.proofs.Lists.{all_each}
 use Rattle.standings.specs.declared.Cell.{Cell}
-use Rattle.standings.specs.Places.{idleCell, overallIn}
-use Rattle.run.specs.Records.{validZero, validOverall}
-use Rattle.standings.proofs.Places.{zero-check, zero-cell}
+use Rattle.standings.specs.Places.{idle_cell, overall_in}
+use Rattle.run.specs.Records.{valid_zero, valid_overall}
+use Rattle.standings.proofs.Places.{zero_check, zero_cell}
 use borrow.Author.Rules.{rules}
 use Rattle.run.proofs.record.valid_overall.Statement.{statement}
 use Rattle.run.proofs.record.valid_overall.Tie as tie
 
 abbrev valid : Bool → Table → ℕ → List Cell → ℕ → Bool
-valid closed t count overall k = not (isOverallRule t (k + 1)) || validZero closed count (overallIn overall (k + 1))
+valid closed t count overall k = not (is_overall_rule t (k + 1)) || valid_zero closed count (overall_in overall (k + 1))
 
 abbrev invariant-loop : tie.invariant-loop
 invariant-loop closed count table overall k₀ k-end k =
@@ -33,18 +33,18 @@ decreases-loop closed count table overall k₀ k-end k = table.count - k
 
 module _ (closed : Bool) (t : Table) (count : ℕ) (overall : List Cell) (k : ℕ) (low : k < t.count) where
   abbrev code : ℕ
-  code = (get_or t.rules k noRule).code
+  code = (get_or t.rules k no_rule).code
 
-  other : isOverall code ≡ false → true ≡ valid closed t count overall k
-  other o = rw (zero-check t k low, o) refl
+  other : is_overall code ≡ false → true ≡ valid closed t count overall k
+  other o = rw (zero_check t k low, o) refl
 
-  looked : isOverall code ≡ true → {v : Bool} → v ≡ validZero closed count (get_or overall k idleCell).standing → v ≡ valid closed t count overall k
-  looked o e = rw (zero-check t k low, o, zero-cell overall k) e
+  looked : is_overall code ≡ true → {v : Bool} → v ≡ valid_zero closed count (get_or overall k idle_cell).standing → v ≡ valid closed t count overall k
+  looked o e = rw (zero_check t k low, o, zero_cell overall k) e
 
-  one-invalid : valid closed t count overall k ≡ false → false ≡ validOverall closed t count overall
-  unfolding validOverall
-  one-invalid e =
-      sym (fails (all_below (valid closed t count overall) t.count) (λ a. all-each (valid closed t count overall) t.count a k low) e)
+  one_invalid : valid closed t count overall k ≡ false → false ≡ valid_overall closed t count overall
+  unfolding valid_overall
+  one_invalid e =
+      sym (fails (all_below (valid closed t count overall) t.count) (λ a. all_each (valid closed t count overall) t.count a k low) e)
 
 loop-holds : tie.Need-loop-init invariant-loop decreases-loop
 loop-holds c = (omega arith, all_none _)
@@ -65,11 +65,11 @@ loop-less : tie.Need-loop-smaller invariant-loop decreases-loop
 loop-less c = search rules
 
 loop-again : tie.Need-loop-preserved invariant-loop decreases-loop
-unfolding noRule noCondition noComparison
+unfolding no_rule no_condition no_comparison
 loop-again c =
     let l = c.before.before.before.before.loop in
     let a = c.before.before.before.before.before.args in
-    (omega arith, all-again _ _ l.invariant.1 (other a.closed a.t2 a.count a.t4 l.k (omega arith) (sym c.before.is-overall.ensures ∙ not-true _ c.if1.true)))
+    (omega arith, all_again _ _ l.invariant.1 (other a.closed a.t2 a.count a.t4 l.k (omega arith) (sym c.before.is_overall_lem.ensures ∙ not-true _ c.if1.true)))
 
 mul-c : tie.Need-overflow-mul-c invariant-loop decreases-loop
 mul-c c = search rules
@@ -81,12 +81,12 @@ valid-zero-requires : tie.Need-valid-zero-requires invariant-loop decreases-loop
 valid-zero-requires c κs = search rules
 
 returns : tie.Need-returns invariant-loop decreases-loop
-unfolding noRule noCondition noComparison
+unfolding no_rule no_condition no_comparison
 returns c =
     let l = c.before.before.before.before.before.before.before.loop in
     let a = c.before.before.before.before.before.before.before.before.args in
-    let o = sym c.before.before.before.before.is-overall.ensures ∙ not-false _ c.before.before.before.if1.false in
-    one-invalid a.closed a.t2 a.count a.t4 l.k (omega arith)
+    let o = sym c.before.before.before.before.is_overall_lem.ensures ∙ not-false _ c.before.before.before.if1.false in
+    one_invalid a.closed a.t2 a.count a.t4 l.k (omega arith)
     (sym (looked a.closed a.t2 a.count a.t4 l.k (omega arith) o c.before.valid-zero.ensures) ∙ not-true _ c.if2.true)
 
 add-k-2 : tie.Need-overflow-add-k-2 invariant-loop decreases-loop
@@ -96,16 +96,16 @@ loop-less-2 : tie.Need-loop-smaller-2 invariant-loop decreases-loop
 loop-less-2 c = search rules
 
 loop-again-2 : tie.Need-loop-preserved-2 invariant-loop decreases-loop
-unfolding noRule noCondition noComparison
+unfolding no_rule no_condition no_comparison
 loop-again-2 c =
     let l = c.before.before.before.before.before.before.before.loop in
     let a = c.before.before.before.before.before.before.before.before.args in
-    let o = sym c.before.before.before.before.is-overall.ensures ∙ not-false _ c.before.before.before.if1.false in
+    let o = sym c.before.before.before.before.is_overall_lem.ensures ∙ not-false _ c.before.before.before.if1.false in
     let holds = sym (not-false c.before.valid-zero.result c.if2.false) in
-    (omega arith, all-again _ _ l.invariant.1 (holds ∙ looked a.closed a.t2 a.count a.t4 l.k (omega arith) o c.before.valid-zero.ensures))
+    (omega arith, all_again _ _ l.invariant.1 (holds ∙ looked a.closed a.t2 a.count a.t4 l.k (omega arith) o c.before.valid-zero.ensures))
 
 returns-2 : tie.Need-returns-2 invariant-loop decreases-loop
-unfolding validOverall
+unfolding valid_overall
 returns-2 c =
     let whole : c.before.loop.k ≡ c.before.before.args.t2.count = omega arith in
     c.before.loop.invariant.1 ∙ ap (all_below _) whole

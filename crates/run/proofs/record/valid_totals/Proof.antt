@@ -9,16 +9,16 @@ use borrow.Author.Tests.{not-true, not-false}
 use lib.ListN.{get_or}
 use Rattle.declare.specs.Lists.{all_below}
 use Rattle.declare.proofs.Booleans.{fails}
-use Rattle.declare.proofs.Lists.{all-each}
-use Rattle.declare.proofs.Sweeps.{all_none, all-again}
+use Rattle.declare.proofs.Lists.{all_each}
+use Rattle.declare.proofs.Sweeps.{all_none, all_again}
 use Rattle.standings.specs.declared.totals.Totals.{Totals}
-use Rattle.standings.specs.Totals.{noTotals}
-use Rattle.run.specs.Records.{sameTotals}
+use Rattle.standings.specs.Totals.{no_totals}
+use Rattle.run.specs.Records.{same_totals}
 use Rattle.run.proofs.record.valid_totals.Statement.{statement}
 use Rattle.run.proofs.record.valid_totals.Tie as tie
 
 abbrev same : List Totals → List Totals → ℕ → Bool
-same stored counted k = sameTotals (get_or stored k noTotals) (get_or counted k noTotals)
+same stored counted k = same_totals (get_or stored k no_totals) (get_or counted k no_totals)
 
 abbrev invariant-loop : tie.invariant-loop
 invariant-loop rules stored counted k₀ k = (k ≤ rules) × (true ≡ all_below (same stored counted) k)
@@ -48,7 +48,7 @@ returns : tie.Need-returns invariant-loop decreases-loop
 returns c =
     let l = c.before.before.before.before.before.loop in
     let a = c.before.before.before.before.before.before.args in
-    sym (fails (all_below (same a.t2 a.t3) a.rules) (λ h. all-each (same a.t2 a.t3) a.rules h l.k (omega arith)) (sym c.before.same-totals.ensures ∙ not-true _ c.if1.true))
+    sym (fails (all_below (same a.t2 a.t3) a.rules) (λ h. all_each (same a.t2 a.t3) a.rules h l.k (omega arith)) (sym c.before.same_totals_lem.ensures ∙ not-true _ c.if1.true))
 
 add-k : tie.Need-overflow-add-k invariant-loop decreases-loop
 add-k c = search rules
@@ -58,7 +58,7 @@ loop-less c = search rules
 
 loop-again : tie.Need-loop-preserved invariant-loop decreases-loop
 loop-again c =
-    (omega arith, all-again _ _ c.before.before.before.before.before.loop.invariant.1 (sym (not-false _ c.if1.false) ∙ c.before.same-totals.ensures))
+    (omega arith, all_again _ _ c.before.before.before.before.before.loop.invariant.1 (sym (not-false _ c.if1.false) ∙ c.before.same_totals_lem.ensures))
 
 returns-2 : tie.Need-returns-2 invariant-loop decreases-loop
 returns-2 c =

@@ -1,5 +1,5 @@
 -- By the standing: its counts are one more, the others stay.
-use Rattle.standings.specs.Totals.{withStanding}
+use Rattle.standings.specs.Totals.{with_standing}
 use borrow.Author.Rules.{rules}
 use Rattle.standings.proofs.totals.with_standing.Statement.{statement}
 use Rattle.standings.proofs.totals.with_standing.Tie as tie
@@ -35,19 +35,19 @@ one-more-requires-6 : tie.Need-one-more-requires-6
 one-more-requires-6 c κs = search rules
 
 returns : tie.Need-returns
-unfolding withStanding
+unfolding with_standing
 returns c = rw c.enum_told.given.1
 
 returns-2 : tie.Need-returns-2
-unfolding withStanding
+unfolding with_standing
 returns-2 c = rw (c.before.before.enum-told2.given.1, c.before.one_more.ensures, c.one-more2.ensures)
 
 returns-3 : tie.Need-returns-3
-unfolding withStanding
+unfolding with_standing
 returns-3 c = rw (c.before.before.enum-told3.given.1, c.before.one-more3.ensures, c.one-more4.ensures)
 
 returns-4 : tie.Need-returns-4
-unfolding withStanding
+unfolding with_standing
 returns-4 c = rw (c.before.before.enum-told4.given.1, c.before.one-more5.ensures, c.one-more6.ensures)
 
 pub with-standing-spec : {M : Type 1} → statement M

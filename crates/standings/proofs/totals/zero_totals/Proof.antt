@@ -7,11 +7,11 @@ use borrow.Author.Rules.{rules}
 use borrow.Author.Tests.{lt-ltb, le-ltb}
 use lib.Dec.{ltb}
 use lib.ListN.{length}
-use Rattle.declare.specs.Limits.{mostRules}
-use Rattle.declare.specs.Rules.{noComparison, noCondition, noRule}
-use Rattle.declare.proofs.Sweeps.{Swept, swept_none, swept-again, swept-skip, swept_all}
-use Rattle.standings.specs.Places.{zeroIn}
-use Rattle.standings.specs.Totals.{noTotals, withStanding, zeroTotals}
+use Rattle.declare.specs.Limits.{most_rules}
+use Rattle.declare.specs.Rules.{no_comparison, no_condition, no_rule}
+use Rattle.declare.proofs.Sweeps.{Swept, swept_none, swept_again, swept_skip, swept_all}
+use Rattle.standings.specs.Places.{zero_in}
+use Rattle.standings.specs.Totals.{no_totals, with_standing, zero_totals}
 use Rattle.standings.proofs.Places.{zero_is}
 use Rattle.standings.proofs.totals.zero_totals.Statement.{statement}
 use Rattle.standings.proofs.totals.zero_totals.Tie as tie
@@ -19,7 +19,7 @@ use Rattle.standings.proofs.totals.zero_totals.Tie as tie
 abbrev invariant-loop : tie.invariant-loop
 invariant-loop table overall totals₀ rules k₀ totals k =
     (k ≤ rules)
-    × Swept (λ i u. cond (ltb i table.count) (withStanding noTotals (zeroIn table overall (i + 1))) u) totals₀ totals k
+    × Swept (λ i u. cond (ltb i table.count) (with_standing no_totals (zero_in table overall (i + 1))) u) totals₀ totals k
 
 abbrev decreases-loop : tie.decreases-loop
 decreases-loop table overall totals₀ rules k₀ totals k = rules - k
@@ -64,27 +64,27 @@ loop-less : tie.Need-loop-smaller invariant-loop decreases-loop
 loop-less c = search rules
 
 loop-again : tie.Need-loop-preserved invariant-loop decreases-loop
-unfolding noRule noCondition noComparison
+unfolding no_rule no_condition no_comparison
 loop-again c =
     let l = c.before.before.before.before.before.before.loop in
     let rules = c.before.before.before.before.before.before.before.min in
     let a = c.before.before.before.before.before.before.before.before.args in
-    let full : length a.t3 ≡ mostRules = search rules in
+    let full : length a.t3 ≡ most_rules = search rules in
     let low : l.k < a.t1.count = omega (arith, rules.ensures) in
-    let few : l.k < mostRules = omega (arith, rules.ensures) in (
+    let few : l.k < most_rules = omega (arith, rules.ensures) in (
       omega arith,
-      swept-again l.invariant.1 noTotals (omega (arith, few, full))
-          (rw (lt-ltb l.k a.t1.count low) (c.with-standing.ensures ∙ ap₂ withStanding c.before.before.no-totals.ensures (c.before.zero_of.ensures ∙ zero_is a.t1 a.t2 l.k low))),
+      swept_again l.invariant.1 no_totals (omega (arith, few, full))
+          (rw (lt-ltb l.k a.t1.count low) (c.with-standing.ensures ∙ ap₂ with_standing c.before.before.no-totals.ensures (c.before.zero_of.ensures ∙ zero_is a.t1 a.t2 l.k low))),
     )
 
 returns : tie.Need-returns invariant-loop decreases-loop
-unfolding zeroTotals
+unfolding zero_totals
 returns c =
     let rules = c.before.before.min in
     let a = c.before.before.before.args in
-    let full : length a.t3 ≡ mostRules = search rules in
+    let full : length a.t3 ≡ most_rules = search rules in
     swept_all
-    (swept-skip c.before.loop.invariant.1 mostRules (omega (arith, rules.ensures))
+    (swept_skip c.before.loop.invariant.1 most_rules (omega (arith, rules.ensures))
     (λ i b d x. rw (le-ltb i a.t1.count (omega (arith, rules.ensures, b, d)))))
     (omega (arith, full))
 

@@ -2,9 +2,9 @@
 use mathlib.Core.Path.{ap}
 use mathlib.Core.List.{◌∷◌, ◌++◌}
 use Prim.Native.Nat.{ℕ}
-use Rattle.number.specs.Written.{digitsOf}
-use Rattle.rule_text.specs.Written.{referenceText, comparisonText}
-use Rattle.buffer.proofs.Puts.{puts_then, puts-as}
+use Rattle.number.specs.Written.{digits_of}
+use Rattle.rule_text.specs.Written.{reference_text, comparison_text}
+use Rattle.buffer.proofs.Puts.{puts_then, puts_as}
 use borrow.Author.Rules.{rules}
 use Rattle.writer.proofs.comparison.put_comparison.Statement.{statement}
 use Rattle.writer.proofs.comparison.put_comparison.Tie as tie
@@ -28,13 +28,13 @@ same_length : tie.Need-same-length
 same_length c = search rules
 
 returns : tie.Need-returns
-unfolding comparisonText
+unfolding comparison_text
 returns c =
     let last = c.before.before in
     let byte = last.before.before.before.before in
     let number = byte.before.before.before.before.before in
     let x = number.before.before.before.before.args.c in
-    puts-as (ap (λ (b : ℕ). digitsOf x.reading ++ (b ∷ referenceText x.reference)) byte.before.operator-byte.ensures)
+    puts_as (ap (λ (b : ℕ). digits_of x.reading ++ (b ∷ reference_text x.reference)) byte.before.operator_byte_lem.ensures)
     (puts_then number.put-number.ensures (puts_then byte.put_byte.ensures last.put-reference.ensures))
 
 pub put-comparison-spec : {M : Type 1} → statement M

@@ -5,8 +5,8 @@ use mir.Syntax.{w32}
 use mir.Facts.{to_z-of_z}
 use borrow.Author.Rules.{rules, sfits_of}
 use Rattle.declare.specs.declared.Reference.TheVariants.{Constant, Activation}
-use Rattle.rule_text.specs.Written.{referenceText}
-use Rattle.buffer.proofs.Puts.{puts-as}
+use Rattle.rule_text.specs.Written.{reference_text}
+use Rattle.buffer.proofs.Puts.{puts_as}
 use Rattle.writer.proofs.comparison.put_reference.Statement.{statement}
 use Rattle.writer.proofs.comparison.put_reference.Tie as tie
 
@@ -26,13 +26,13 @@ same_length : tie.Need-same-length
 same_length c = search rules
 
 returns : tie.Need-returns
-unfolding referenceText
+unfolding reference_text
 returns c =
     let last = c.before.before in
     let told = last.before.before in
     let k = told.before.reference.given.0.0 in
     let same = to_z-of_z {w = w32} {z = k} (sfits_of told.known-told.given.0.1) in
-    rw told.before.reference.given.1 (puts-as (ap (λ (z : ℤ). referenceText (Constant z)) same) last.put-integer.ensures)
+    rw told.before.reference.given.1 (puts_as (ap (λ (z : ℤ). reference_text (Constant z)) same) last.put-integer.ensures)
 
 same-length-2 : tie.Need-same-length-2
 same-length-2 c = search rules
@@ -44,7 +44,7 @@ returns-2 c =
     let g = told.before.reference2.given.0.0 in
     let k = told.before.reference2.given.0.1.0 in
     let same = to_z-of_z {w = w32} {z = k} (sfits_of told.known-told2.given.1.0.1) in
-    rw told.before.reference2.given.1 (puts-as (ap (λ (z : ℤ). referenceText (Activation g z)) same) last.put-activation.ensures)
+    rw told.before.reference2.given.1 (puts_as (ap (λ (z : ℤ). reference_text (Activation g z)) same) last.put-activation.ensures)
 
 pub put-reference-spec : {M : Type 1} → statement M
 put-reference-spec =

@@ -1,7 +1,7 @@
 -- Six fields, each with the byte that ends it.
-use Rattle.cycle_text.specs.Written.{eventFields}
+use Rattle.cycle_text.specs.Written.{event_fields}
 use Rattle.buffer.proofs.Puts.{puts_then}
-use Rattle.buffer.proofs.Lines.{puts-line}
+use Rattle.buffer.proofs.Lines.{puts_line}
 use borrow.Author.Rules.{rules}
 use Rattle.writer.proofs.event.put_event.Statement.{statement}
 use Rattle.writer.proofs.event.put_event.Tie as tie
@@ -28,7 +28,7 @@ same_length : tie.Need-same-length
 same_length c = search rules
 
 returns : tie.Need-returns
-unfolding eventFields
+unfolding event_fields
 returns c =
     let fourth = c.before.before in
     let third = fourth.before.before.before.before in
@@ -36,7 +36,7 @@ returns c =
     let first = second.before.before.before.before in
     let activity = first.before.before.before.before in
     let time = activity.before.before.before.before in
-    puts-line eventFields time.before.before.before.args.e
+    puts_line event_fields time.before.before.before.args.e
     (puts_then time.put-number-field.ensures
     (puts_then activity.put-byte-field.ensures
     (puts_then first.put-reading-field.ensures

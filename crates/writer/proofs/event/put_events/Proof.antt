@@ -4,22 +4,22 @@ use Prim.Native.Nat.{◌-◌, ◌≤◌}
 use native.Mathlib.Omega.{arith}
 use borrow.Author.Rules.{rules}
 use lib.ListN.{take}
-use Rattle.line.specs.Texts.{writtenText}
-use Rattle.cycle_text.specs.Written.{eventFields, eventsText}
+use Rattle.line.specs.Texts.{written_text}
+use Rattle.cycle_text.specs.Written.{event_fields, events_text}
 use Rattle.buffer.specs.Puts.{Puts}
-use Rattle.buffer.proofs.Puts.{puts_none, puts-length}
-use Rattle.buffer.proofs.Lines.{puts-more}
+use Rattle.buffer.proofs.Puts.{puts_none, puts_length}
+use Rattle.buffer.proofs.Lines.{puts_more}
 use Rattle.writer.proofs.event.put_events.Statement.{statement}
 use Rattle.writer.proofs.event.put_events.Tie as tie
 
 abbrev invariant-loop : tie.invariant-loop
-invariant-loop out₀ count events at₀ p₀ out at p = (p ≤ count) × Puts (eventsText (take p events)) out₀ 0 out at
+invariant-loop out₀ count events at₀ p₀ out at p = (p ≤ count) × Puts (events_text (take p events)) out₀ 0 out at
 
 abbrev decreases-loop : tie.decreases-loop
 decreases-loop out₀ count events at₀ p₀ out at p = count - p
 
 loop-holds : tie.Need-loop-init invariant-loop decreases-loop
-unfolding eventsText writtenText
+unfolding events_text written_text
 loop-holds c = (omega arith, puts_none _ _)
 
 mul-e : tie.Need-overflow-mul-e invariant-loop decreases-loop
@@ -38,14 +38,14 @@ loop-less : tie.Need-loop-smaller invariant-loop decreases-loop
 loop-less c = search rules
 
 loop-again : tie.Need-loop-preserved invariant-loop decreases-loop
-unfolding eventsText writtenText
+unfolding events_text written_text
 loop-again c =
     let last = c.before.before in
     let loop = last.before.before.before.before.loop in
-    (omega arith, puts-more eventFields _ loop.p _ (omega arith) loop.invariant.1 last.put-event.ensures)
+    (omega arith, puts_more event_fields _ loop.p _ (omega arith) loop.invariant.1 last.put-event.ensures)
 
 same_length : tie.Need-same-length invariant-loop decreases-loop
-same_length c = puts-length c.before.loop.invariant.1
+same_length c = puts_length c.before.loop.invariant.1
 
 returns : tie.Need-returns invariant-loop decreases-loop
 returns c =

@@ -1,5 +1,5 @@
 -- By the end.
-use Rattle.rule_text.specs.Written.{endText}
+use Rattle.rule_text.specs.Written.{end_text}
 use borrow.Author.Rules.{rules}
 use Rattle.writer.proofs.rule.put_end.Statement.{statement}
 use Rattle.writer.proofs.rule.put_end.Tie as tie
@@ -20,7 +20,7 @@ same_length : tie.Need-same-length
 same_length c = search rules
 
 returns : tie.Need-returns
-unfolding endText
+unfolding end_text
 returns c =
     let last = c.before.before in
     rw last.before.before.enum_told.given.1 last.put_byte.ensures
@@ -29,7 +29,7 @@ same-length-2 : tie.Need-same-length-2
 same-length-2 c = search rules
 
 returns-2 : tie.Need-returns-2
-unfolding endText
+unfolding end_text
 returns-2 c =
     let last = c.before.before in
     rw last.before.before.before.until.given.1 last.put-number.ensures

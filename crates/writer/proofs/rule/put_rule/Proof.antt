@@ -1,7 +1,7 @@
 -- Seven fields, each with the byte that ends it.
-use Rattle.rule_text.specs.Written.{ruleFields}
+use Rattle.rule_text.specs.Written.{rule_fields}
 use Rattle.buffer.proofs.Puts.{puts_then}
-use Rattle.buffer.proofs.Lines.{puts-line}
+use Rattle.buffer.proofs.Lines.{puts_line}
 use borrow.Author.Rules.{rules}
 use Rattle.writer.proofs.rule.put_rule.Statement.{statement}
 use Rattle.writer.proofs.rule.put_rule.Tie as tie
@@ -31,7 +31,7 @@ same_length : tie.Need-same-length
 same_length c = search rules
 
 returns : tie.Need-returns
-unfolding ruleFields
+unfolding rule_fields
 returns c =
     let correlation = c.before.before in
     let condition = correlation.before.before.before.before in
@@ -40,7 +40,7 @@ returns c =
     let target = from.before.before.before.before in
     let activation = target.before.before.before.before in
     let code = activation.before.before.before.before in
-    puts-line ruleFields code.before.before.before.before.args.rule
+    puts_line rule_fields code.before.before.before.before.args.rule
     (puts_then code.put-byte-field.ensures
     (puts_then activation.put-byte-field2.ensures
     (puts_then target.put-byte-field3.ensures
