@@ -26,7 +26,7 @@ module _ (v : ℕ) (h : v ≤ 2147483648) where
       magnitude (suc n) l = omega arith
 
   pub down_64 : to_z w64 (of_z w64 (pos 0 -ℤ to_z w64 v)) ≡ neg_ℤ (pos v)
-  down_64 = rw down (to_z-of_z (sfits_widen {w = w32} tt fits_down))
+  down_64 = rw down (to_z-of_z {w = w64} (sfits_widen {w = w32} tt fits_down))
 
   pub down_32 : to_z w32 (of_z w32 (neg_ℤ (pos v))) ≡ neg_ℤ (pos v)
   down_32 = to_z-of_z fits_down

@@ -1,0 +1,23 @@
+-- A row that there is begins at (rule − 1) · 256; past the cells the list's end is idle.
+use mathlib.Core.Path.{◌≡◌, sym}
+use Prim.Native.Nat.{◌-◌}
+use native.Mathlib.Omega.{arith}
+use lib.ListN.{length}
+use borrow.Author.Rules.{rules}
+use Rattle.standings.specs.Places.{places, standing_from}
+use Rattle.standings.proofs.Rows.{past_row, in_row}
+use Rattle.standings.proofs.standing_in.Goals as goal
+
+pub returns-then-first-p : goal.returns-then-first-p
+returns-then-first-p c =
+    let a = c in
+    let size : length a.args.cells ≡ places = search rules in
+    let p : c.less_one-p.result ≡ a.args.position - 1 = c.less_one-p.ensures in
+    sym (past_row a.args.cells a.args.rule _ c.row_start-first.ensures size a.args.position (omega arith))
+
+pub returns : goal.returns
+unfolding standing_from
+returns c =
+    let a = c in
+    let p : c.less_one-p.result ≡ a.args.position - 1 = c.less_one-p.ensures in
+    rw p (in_row a.args.cells a.args.rule _ c.row_start-first.ensures a.args.position (omega arith))

@@ -1,0 +1,6 @@
+-- One slot a rule.
+use borrow.Author.Rules.{rules}
+use Rattle.standings.proofs.totals.idle_totals.Goals as goal
+
+pub returns : goal.returns
+returns c = rw c.no_totals-none.ensures
