@@ -1,0 +1,16 @@
+use borrow.Author.Rules.{rules}
+use mathlib.Core.Path.{◌≡◌, ◌∙◌}
+use Prim.Native.Nat.{◌-◌, ◌≤◌}
+use native.Mathlib.Omega.{arith}
+use lib.ListN.{length}
+use Rattle.declare.specs.Lists.{first_past}
+use Rattle.judge.specs.Flags.{flag_at}
+use Rattle.judge.proofs.Spans.{first_begin, first_again, next_found, next_end}
+use Rattle.judge.proofs.Activations.{flag_at_lem}
+use Rattle.judge.proofs.scan.next_activation.Given as goal
+
+abbrev pub invariant-loop-k : goal.invariant-loop-k
+invariant-loop-k l = (l.i ≤ l.k) × (first_past (flag_at l.row) l.i l.k ≡ 0)
+
+abbrev pub decreases-loop-k : goal.decreases-loop-k
+decreases-loop-k l = length l.row - l.k

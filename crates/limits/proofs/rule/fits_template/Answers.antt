@@ -1,0 +1,16 @@
+-- A rule that is not about the cycle fits; of another, both parts of the definition.
+use mathlib.Core.Path.{sym, ◌∙◌}
+use borrow.Author.Tests.{not-true, not-false}
+use Rattle.declare.specs.Rules.{fits_template}
+use borrow.Author.Rules.{rules}
+use Rattle.limits.proofs.rule.fits_template.Goals as goal
+
+pub returns-then-not-is_overall : goal.returns-then-not-is_overall
+unfolding fits_template
+returns-then-not-is_overall c = rw (sym c.is_overall.ensures ∙ c.if-not-is_overall.true)
+
+pub returns : goal.returns
+unfolding fits_template
+returns c =
+    let e = c in
+    rw (sym e.is_overall.ensures ∙ e.if-not-is_overall.false, c.counts_target-both_count.ensures, c.overall_of.ensures)
