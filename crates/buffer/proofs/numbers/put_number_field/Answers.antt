@@ -1,0 +1,9 @@
+-- The number, then the byte.
+use Rattle.buffer.proofs.Puts.{puts_then}
+use borrow.Author.Rules.{rules}
+use Rattle.buffer.proofs.numbers.put_number_field.Goals as goal
+
+pub returns : goal.returns
+returns c =
+    let last = c in
+    puts_then last.put_number-at.ensures last.put_byte.ensures

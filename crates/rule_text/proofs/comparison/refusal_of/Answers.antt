@@ -1,0 +1,13 @@
+-- `comparison::refusal_of` names the causes whose numbers are 4 and 3.
+use Rattle.declare.specs.Refusals.{number_of}
+use Rattle.rule_text.specs.Comparisons.{k_number}
+use borrow.Author.Rules.{rules}
+use Rattle.rule_text.proofs.comparison.refusal_of.Goals as goal
+
+pub returns-in-Form : goal.returns-in-Form
+unfolding number_of k_number
+returns-in-Form c = rw c.in-Form.is
+
+pub returns-in-Range : goal.returns-in-Range
+unfolding number_of k_number
+returns-in-Range c = rw c.in-Range.is

@@ -1,0 +1,22 @@
+-- `window::end_field`: the reader's answer for the whole field is document 01's.
+use mathlib.Core.Path.{◌∙◌, ap}
+use native.Mathlib.Omega.{arith}
+use Rattle.declare.specs.Events.{latest}
+use Rattle.number.specs.Reader.{bound}
+use Rattle.number.proofs.Answers.{answers}
+use Rattle.line.specs.declared.FieldScan.{FieldScan}
+use Rattle.line.specs.Fields.{tab, before}
+use Rattle.line.specs.Values.{number_field}
+use Rattle.line.specs.Scans.{field_scan}
+use Rattle.rule_text.specs.Rules.{end_field}
+use Rattle.rule_text.specs.Reads.{end_by}
+use borrow.Author.Rules.{rules}
+use Rattle.rule_text.proofs.window.end_field.Goals as goal
+
+pub returns : goal.returns
+unfolding end_field end_by number_field field_scan bound
+returns c =
+    let f = answers (before tab c.args.part.now) in (
+      c.end_answer-answer.ensures ∙ rw (c.scan_field-scan.ensures, f.dashed, f.natural 1 latest (omega arith)),
+      ap (λ (s : FieldScan). s.length) c.scan_field-scan.ensures,
+    )
