@@ -6,4 +6,4 @@ use Rattle.rule_text.proofs.refused.Goals as goal
 
 pub returns : goal.returns
 unfolding padded table_of
-returns c = (refl, rw c.no_rule-none.ensures)
+returns c = record { outcome_value = refl; table_value = rw c.no_rule-none.ensures }

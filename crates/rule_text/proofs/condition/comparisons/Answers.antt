@@ -5,7 +5,7 @@ use mathlib.Core.Bool.{Bool}
 use mathlib.Core.List.{List, [], ◌∷◌, ◌++◌}
 use Prim.Native.Nat.{ℕ, ◌+◌, ◌-◌, ◌≤◌, ◌<◌}
 use native.Mathlib.Omega.{arith}
-use lib.ListN.{length, drop, length-append, length-drop}
+use lib.ListN.{length, take, drop, length-append, length-drop}
 use Rattle.declare.specs.Conditions.{comparisons_of}
 use Rattle.declare.specs.Refusals.{number_of}
 use Rattle.declare.specs.Rules.{no_condition}
@@ -20,60 +20,53 @@ use Rattle.rule_text.proofs.Comparisons.{measured, length_le, comma_refused}
 use Rattle.rule_text.proofs.Conditions.{comparisons_slots, fields_at, fields_start, fields_end, fields_next, after_refused, after_full, after_next}
 use borrow.Author.Rules.{rules}
 use Rattle.rule_text.proofs.condition.comparisons.Goals as goal
-use Rattle.rule_text.proofs.condition.comparisons.Goals.{After-comparison}
 
-abbrev Read : Type 0
-Read = After-comparison
+-- a comparison is read from `at` on
+record InHand (correlation : Bool) (field : List ℕ) (condition : Condition) (at : ℕ) (read : ComparisonAnswer) : Type 0 where
+  same : condition ≡ condition_of (comparisons_of condition)
+  turn : comparisons_after correlation [] (split comma field) ≡ comparisons_after correlation (comparisons_of condition) (fields_at field at)
+  more : at ≤ length field
+  found : comparison_read read ≡ up_to_comma (comparison_field correlation) (take (length field - at) (drop at field))
 
-abbrev field_of : Read → List ℕ
-field_of c = c.before.before.before.before.before.before.args.field.now
+module _ {correlation : Bool} {field : List ℕ} {condition : Condition} {at : ℕ} {read : ComparisonAnswer} (hand : InHand correlation field condition at read) where
+  -- the comparisons held, and the part that begins at the next
+  abbrev held : List Comparison
+  held = comparisons_of condition
 
-abbrev correlation_of : Read → Bool
-correlation_of c = c.before.before.before.before.before.before.args.correlation
+  abbrev left : List ℕ
+  left = drop at field
 
-abbrev at_of : Read → ℕ
-at_of c = c.before.before.before.loop.at
+  comparison_is : (x : ComparisonAnswer) → read ≡ x → up_to_comma (comparison_field correlation) left ≡ comparison_read x
+  comparison_is x p =
+      let e : comparison_read read ≡ up_to_comma (comparison_field correlation) left = rw (part_rest field at) at hand.found in
+      sym e ∙ ap comparison_read p
 
--- the comparisons held, and the part that begins at the next
-abbrev held : Read → List Comparison
-held c = comparisons_of c.before.before.before.loop.condition
+  -- the field, by the comparison in hand
+  by_comparison : comparisons_after correlation [] (split comma field) ≡ comparisons_after correlation held (before comma left ∷ fields_at field (at + index_of comma left + 1))
+  by_comparison = hand.turn ∙ ap (comparisons_after correlation held) (fields_next field at hand.more)
 
-abbrev left : Read → List ℕ
-left c = drop (at_of c) (field_of c)
+  count_is : condition.count ≡ length held
+  unfolding condition_of
+  count_is = ap (λ (x : Condition). x.count) hand.same
 
-comparison_is : (c : Read) (x : ComparisonAnswer) → c.comparison.result ≡ x → up_to_comma (comparison_field (correlation_of c)) (left c) ≡ comparison_read x
-comparison_is c x p =
-    let e : comparison_read c.comparison.result ≡ up_to_comma (comparison_field (correlation_of c)) (left c) = rw (part_rest (field_of c) (at_of c)) at c.comparison.ensures in
-    sym e ∙ ap comparison_read p
+  -- a comparison that was read
+  module _ (d : Comparison) (n : ℕ) (h : read ≡ Compared d n) where
+    whole : up_to_comma (comparison_field correlation) left ≡ accepted (record { value = d; length = n })
+    unfolding comparison_read
+    whole = comparison_is (Compared d n) h
 
--- the field, by the comparison in hand
-by_comparison : (c : Read) → comparisons_after (correlation_of c) [] (split comma (field_of c)) ≡ comparisons_after (correlation_of c) (held c) (before comma (left c) ∷ fields_at (field_of c) (at_of c + index_of comma (left c) + 1))
-by_comparison c =
-    c.before.before.before.loop.invariant.2
-    ∙ ap (comparisons_after (correlation_of c) (held c)) (fields_next (field_of c) (at_of c) c.before.before.loop-test.true)
+    holds : comparison_field correlation (before comma left) ≡ accepted d
+    holds = (measured (comparison_field correlation) left (record { value = d; length = n }) whole).0
 
-count_is : (c : Read) → c.before.before.before.loop.condition.count ≡ length (held c)
-unfolding condition_of
-count_is c = ap (λ (x : Condition). x.count) c.before.before.before.loop.invariant.1
+    length_is : index_of comma left ≡ n
+    length_is = (measured (comparison_field correlation) left (record { value = d; length = n }) whole).1
 
--- a comparison that was read
-module _ (c : Read) (d : Comparison) (n : ℕ) (h : c.comparison.result ≡ Compared d n) where
-  whole : up_to_comma (comparison_field (correlation_of c)) (left c) ≡ accepted (record { value = d; length = n })
-  unfolding comparison_read
-  whole = comparison_is c (Compared d n) h
+    within : at + n ≤ length field
+    within =
+        omega (arith, length_le (comparison_field correlation) left (record { value = d; length = n }) whole, length-drop at field, hand.more)
 
-  holds : comparison_field (correlation_of c) (before comma (left c)) ≡ accepted d
-  holds = (measured (comparison_field (correlation_of c)) (left c) (record { value = d; length = n }) whole).0
-
-  length_is : index_of comma (left c) ≡ n
-  length_is = (measured (comparison_field (correlation_of c)) (left c) (record { value = d; length = n }) whole).1
-
-  within : at_of c + n ≤ length (field_of c)
-  within =
-      omega (arith, length_le (comparison_field (correlation_of c)) (left c) (record { value = d; length = n }) whole, length-drop (at_of c) (field_of c), c.before.before.loop-test.true)
-
-  held_more : length (held c) < 4 → comparisons_of (condition_of (held c ++ (d ∷ []))) ≡ held c ++ (d ∷ [])
-  held_more l = comparisons_slots (held c ++ (d ∷ [])) (rw (length-append (held c) (d ∷ [])) (omega arith))
+    held_more : length held < 4 → comparisons_of (condition_of (held ++ (d ∷ []))) ≡ held ++ (d ∷ [])
+    held_more l = comparisons_slots (held ++ (d ∷ [])) (rw (length-append held (d ∷ [])) (omega arith))
 
 pub loop-at-init : goal.loop-at-init
 unfolding no_condition condition_of comparisons_of
@@ -82,45 +75,43 @@ loop-at-init c = rw c.no_condition-condition.ensures (omega arith, refl, ap (com
 pub returns-in-NotCompared : goal.returns-in-NotCompared
 unfolding comparisons_field condition_read comparison_read ◌>>=◌
 returns-in-NotCompared c =
-    let k = c in
-    let r = comma_refused (comparison_field (correlation_of k)) (left k) _ (comparison_is k _ c.in-NotCompared.is) in
-    sym (rw (by_comparison k ∙ after_refused (correlation_of k) (held k) (before comma (left k)) _ _ r))
+    let k : InHand c.args.correlation c.args.field.now c.loop-at.condition c.loop-at.at c.comparison.result = record { same = c.loop-at.invariant.1; turn = c.loop-at.invariant.2; more = c.loop-at-test.true; found = c.comparison.ensures } in
+    let r = comma_refused (comparison_field c.args.correlation) (left k) _ (comparison_is k _ c.in-NotCompared.is) in
+    sym (rw (by_comparison k ∙ after_refused c.args.correlation (held k) (before comma (left k)) _ _ r))
 
 pub returns-then-condition-ge-COMPARISONS : goal.returns-then-condition-ge-COMPARISONS
 unfolding comparisons_field condition_read ◌>>=◌ number_of
 returns-then-condition-ge-COMPARISONS c =
-    let k = c in
-    let a = c.next-1.given in
-    sym (rw (by_comparison k ∙ after_full (correlation_of k) (held k) (before comma (left k)) _ _ (holds k _ _ a.1) (omega (arith, count_is k, c.if-condition-ge-COMPARISONS.true))))
+    let k : InHand c.args.correlation c.args.field.now c.loop-at.condition c.loop-at.at c.comparison.result = record { same = c.loop-at.invariant.1; turn = c.loop-at.invariant.2; more = c.loop-at-test.true; found = c.comparison.ensures } in
+    sym (rw (by_comparison k ∙ after_full c.args.correlation (held k) (before comma (left k)) _ _ (holds k _ _ c.in-Compared.is) (omega (arith, count_is k, c.if-condition-ge-COMPARISONS.true))))
 
 pub with-condition-requires : goal.with-condition-requires
 with-condition-requires c = omega (arith, c.if-condition-ge-COMPARISONS.false)
 
 pub overflow_add-at : goal.overflow_add-at
 overflow_add-at c =
-    let k = c in
-    omega (arith, within k _ _ c.in-Compared.is, k.well_formed)
+    let k : InHand c.args.correlation c.args.field.now c.loop-at.condition c.loop-at.at c.comparison.result = record { same = c.loop-at.invariant.1; turn = c.loop-at.invariant.2; more = c.loop-at-test.true; found = c.comparison.ensures } in
+    omega (arith, within k _ _ c.in-Compared.is, c.well_formed)
 
 pub overflow_add-at-in-Compared : goal.overflow_add-at-in-Compared
 overflow_add-at-in-Compared c =
-    let k = c in
-    omega (arith, within k _ _ c.in-Compared.is, k.well_formed)
+    let k : InHand c.args.correlation c.args.field.now c.loop-at.condition c.loop-at.at c.comparison.result = record { same = c.loop-at.invariant.1; turn = c.loop-at.invariant.2; more = c.loop-at-test.true; found = c.comparison.ensures } in
+    omega (arith, within k _ _ c.in-Compared.is, c.well_formed)
 
 pub loop-at-smaller : goal.loop-at-smaller
 loop-at-smaller c =
-    let k = c in
-    omega (arith, within k _ _ c.in-Compared.is, k.loop-at-test.true)
+    let k : InHand c.args.correlation c.args.field.now c.loop-at.condition c.loop-at.at c.comparison.result = record { same = c.loop-at.invariant.1; turn = c.loop-at.invariant.2; more = c.loop-at-test.true; found = c.comparison.ensures } in
+    omega (arith, within k _ _ c.in-Compared.is, c.loop-at-test.true)
 
 pub loop-at-preserved : goal.loop-at-preserved
 loop-at-preserved c =
-    let k = c in
-    let a = c.next-1.given in
-    let d = a.0.0 in
+    let k : InHand c.args.correlation c.args.field.now c.loop-at.condition c.loop-at.at c.comparison.result = record { same = c.loop-at.invariant.1; turn = c.loop-at.invariant.2; more = c.loop-at-test.true; found = c.comparison.ensures } in
+    let d = c.in-Compared.next in
     let l : length (held k) < 4 = omega (arith, count_is k, c.if-condition-ge-COMPARISONS.false) in
-    let e : comparisons_of c.with-condition.result ≡ held k ++ (d ∷ []) = ap comparisons_of c.with-condition.ensures ∙ held_more k d _ a.1 l in (
-      omega (arith, within k _ _ a.1),
+    let e : comparisons_of c.with-condition.result ≡ held k ++ (d ∷ []) = ap comparisons_of c.with-condition.ensures ∙ held_more k d _ c.in-Compared.is l in (
+      omega (arith, within k _ _ c.in-Compared.is),
       c.with-condition.ensures ∙ ap condition_of (sym e),
-      by_comparison k ∙ after_next (correlation_of k) (held k) (before comma (left k)) _ d (holds k d _ a.1) l ∙ rw (length_is k d _ a.1, e),
+      by_comparison k ∙ after_next c.args.correlation (held k) (before comma (left k)) _ d (holds k d _ c.in-Compared.is) l ∙ rw (length_is k d _ c.in-Compared.is, e),
     )
 
 pub returns : goal.returns

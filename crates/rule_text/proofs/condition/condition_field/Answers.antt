@@ -9,8 +9,9 @@ use Rattle.rule_text.proofs.condition.condition_field.Goals as goal
 
 pub returns : goal.returns
 returns c =
-    let a = c.args in (
-      c.condition-answer.ensures
-          ∙ ap (condition_field a.correlation) (c.part_before.ensures ∙ ap (λ (n : ℕ). take n a.part.now) c.find-length.ensures ∙ sym (before_take a.separator a.part.now)),
-      c.find-length.ensures,
-    )
+    let a = c.args in
+    record {
+      answer_value = c.condition-answer.ensures
+          ∙ ap (condition_field a.correlation) (c.part_before.ensures ∙ ap (λ (n : ℕ). take n a.part.now) c.find-length.ensures ∙ sym (before_take a.separator a.part.now));
+      length_value = c.find-length.ensures;
+    }

@@ -16,7 +16,8 @@ use Rattle.rule_text.proofs.window.end_field.Goals as goal
 pub returns : goal.returns
 unfolding end_field end_by number_field field_scan bound
 returns c =
-    let f = answers (before tab c.args.part.now) in (
-      c.end_answer-answer.ensures ∙ rw (c.scan_field-scan.ensures, f.dashed, f.natural 1 latest (omega arith)),
-      ap (λ (s : FieldScan). s.length) c.scan_field-scan.ensures,
-    )
+    let f = answers (before tab c.args.part.now) in
+    record {
+      answer_value = c.end_answer-answer.ensures ∙ rw (c.scan_field-scan.ensures, f.dashed, f.natural 1 latest (omega arith));
+      length_value = ap (λ (s : FieldScan). s.length) c.scan_field-scan.ensures;
+    }
