@@ -1,5 +1,6 @@
 -- `comparison::operator_of`, byte by byte.
 use borrow.Author.Tests.{ne_eqb}
+use borrow.Author.Rules.{rules}
 use Rattle.rule_text.specs.Comparisons.{operator_of}
 use Rattle.rule_text.specs.Reads.{operator_read}
 use Rattle.rule_text.proofs.comparison.operator_of.Goals as goal
@@ -30,4 +31,4 @@ returns-in-103 c = rw c.in-103.is
 
 pub returns-in_default : goal.returns-in_default
 unfolding operator_of operator_read
-returns-in_default c = let r = c.in_default.in_default-own.rest in simp (ne_eqb _ _ r.0.0.0.0.0.1, ne_eqb _ _ r.0.0.0.0.1, ne_eqb _ _ r.0.0.0.1, ne_eqb _ _ r.0.0.1, ne_eqb _ _ r.0.1, ne_eqb _ _ r.1)
+returns-in_default c = search rules

@@ -5,12 +5,6 @@ use Rattle.declare.specs.Conditions.{comparisons_of}
 use Rattle.rule_text.specs.Conditions.{condition_of}
 use borrow.Author.Rules.{rules}
 use Rattle.rule_text.proofs.condition.with.Goals as goal
-use Rattle.rule_text.proofs.condition.with.Goals.{In_default}
-
-three : (c : In_default) → c.args.condition.count ≡ 3
-three c =
-    let r = c.in_default.in_default-own.rest in
-    omega (arith, c.requires, r.0.0.1, r.0.1, r.1)
 
 pub returns-in-0 : goal.returns-in-0
 unfolding comparisons_of condition_of
@@ -26,4 +20,4 @@ returns-in-2 c = c.slots-in-2.ensures ∙ rw (c.no_comparison-none.ensures, c.in
 
 pub returns-in_default : goal.returns-in_default
 unfolding comparisons_of condition_of
-returns-in_default c = c.slots-in_default.ensures ∙ rw (three c.before)
+returns-in_default c = let three : c.args.condition.count ≡ 3 = omega arith in c.slots-in_default.ensures ∙ rw three
