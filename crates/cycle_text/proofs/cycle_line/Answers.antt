@@ -17,15 +17,15 @@ pub returns-then-rest-end : goal.returns-then-rest-end
 unfolding event_read number_of
 returns-then-rest-end c =
     let scan = c.scan_line-scan.ensures in
-    (sym (no_line_end _ _ scan event_of c.if-rest-end.true), ap (λ (n : ℕ). n + 1) (end_is _ _ scan))
+    record { answer_value = sym (no_line_end _ _ scan event_of c.if-rest-end.true); next_value = ap (λ (n : ℕ). n + 1) (end_is _ _ scan) }
 
 pub returns-then-scan-ne-TABS : goal.returns-then-scan-ne-TABS
 unfolding event_read number_of
 returns-then-scan-ne-TABS c =
     let scan = c.scan_line-scan.ensures in
-    (sym (other_count _ _ scan event_of c.if-rest-end.false 5 field_count c.if-scan-ne-TABS.true), ap (λ (n : ℕ). n + 1) (end_is _ _ scan))
+    record { answer_value = sym (other_count _ _ scan event_of c.if-rest-end.false 5 field_count c.if-scan-ne-TABS.true); next_value = ap (λ (n : ℕ). n + 1) (end_is _ _ scan) }
 
 pub returns : goal.returns
 returns c =
     let scan = c.scan_line-scan.ensures in
-    (c.read_event-answer.ensures ∙ sym (fields_of_lem _ _ scan event_of c.if-rest-end.false 5 c.if-scan-ne-TABS.false), ap (λ (n : ℕ). n + 1) (end_is _ _ scan))
+    record { answer_value = c.read_event-answer.ensures ∙ sym (fields_of_lem _ _ scan event_of c.if-rest-end.false 5 c.if-scan-ne-TABS.false); next_value = ap (λ (n : ℕ). n + 1) (end_is _ _ scan) }

@@ -1,82 +1,65 @@
 -- `cycle_text::readings`: the fields give what the definition gives from the next field on, by the
 -- readings so far.
 use mathlib.Core.Path.{◌≡◌, sym, ◌∙◌, ap}
-use Prim.Native.Nat.{ℕ}
+use mathlib.Core.List.{List}
+use Prim.Native.Nat.{ℕ, ◌+◌}
+use lib.ListN.{drop}
 use Rattle.declare.specs.Answers.{Answer, ◌>>=◌}
-use Rattle.line.specs.Fields.{fields_from}
-use Rattle.line.specs.Values.{reading_read}
+use Rattle.line.specs.Fields.{tab, before, index_of, fields_from}
+use Rattle.line.specs.Values.{reading_field, reading_read}
+use Rattle.line.specs.declared.ReadingAnswer.{ReadingAnswer}
+use Rattle.line.specs.declared.ReadingAnswer.TheVariants.{Read}
 use Rattle.line.proofs.Lines.{field_passed}
 use Rattle.cycle_text.specs.Types.{Reading, Event}
 use Rattle.cycle_text.specs.Reads.{event_read, event_with}
 use Rattle.cycle_text.proofs.Lines.{from_reading2, from_reading3, from_reading4, by_readings}
 use borrow.Author.Rules.{rules}
 use Rattle.cycle_text.proofs.readings.Goals as goal
-use Rattle.cycle_text.proofs.readings.Goals.{After-reading_field-field, After-reading_field-field-2, After-reading_field-field-3, After-rest_of-part, After-rest_of-part-2, After-rest_of-part-3}
 
-abbrev time : After-reading_field-field → ℕ
-time c = c.args.time
+module _ (time activity : ℕ) where
+  module _ (part : List ℕ) {rest : List ℕ} {answer : ReadingAnswer} {n : ℕ} {value : Reading} where
+    -- the first reading is read, and the rest of the line from the second on
+    after1 : reading_read answer ≡ reading_field (before tab part) → n ≡ index_of tab part → answer ≡ Read value → rest ≡ drop (n + 1) part → event_with time activity (fields_from 3 part) ≡ from_reading2 time activity rest value
+    unfolding reading_read
+    after1 read end is next = by_readings _ _ _ ∙ field_passed (from_reading2 time activity) _ _ (sym read ∙ ap reading_read is) end next
 
-abbrev activity : After-reading_field-field → ℕ
-activity c = c.args.activity
+    after2 : (r1 : Reading) → reading_read answer ≡ reading_field (before tab part) → n ≡ index_of tab part → answer ≡ Read value → rest ≡ drop (n + 1) part → from_reading2 time activity part r1 ≡ from_reading3 time activity rest r1 value
+    unfolding reading_read
+    after2 r1 read end is next = field_passed (λ s. from_reading3 time activity s r1) _ _ (sym read ∙ ap reading_read is) end next
 
-abbrev whole : After-reading_field-field → Answer Event
-whole c = event_with (time c) (activity c) (fields_from 3 c.args.part.now)
-
--- ---- the first reading, and the part after it
-
-abbrev field1 : After-rest_of-part → After-reading_field-field
-field1 c = c.before.before
-
-abbrev reading1 : After-rest_of-part → Reading
-reading1 c = c.in-Read.value
-
-after1 : (c : After-rest_of-part) → whole (field1 c) ≡ from_reading2 (time (field1 c)) (activity (field1 c)) c.rest_of-part.result.now (reading1 c)
-unfolding reading_read
-after1 c =
-    by_readings _ _ _
-    ∙ field_passed (from_reading2 (time (field1 c)) (activity (field1 c))) _ _ (sym (field1 c).reading-field.ensures.0 ∙ ap reading_read c.in-Read.is) (field1 c).reading-field.ensures.1 c.rest_of-part.ensures
-
--- ---- the second
-
-abbrev field2 : After-rest_of-part-2 → After-reading_field-field-2
-field2 c = c.before.before
-
-abbrev reading2 : After-rest_of-part-2 → Reading
-reading2 c = c.in-Read-answer.value
-
-after2 : (c : After-rest_of-part-2) → whole (field1 (field2 c).before) ≡ from_reading3 (time (field1 (field2 c).before)) (activity (field1 (field2 c).before)) c.rest_of-part-2.result.now (reading1 (field2 c).before) (reading2 c)
-unfolding reading_read
-after2 c =
-    after1 (field2 c).before
-    ∙ field_passed (λ s. from_reading3 (time (field1 (field2 c).before)) (activity (field1 (field2 c).before)) s (reading1 (field2 c).before)) _ _ (sym (field2 c).reading-field2.ensures.0 ∙ ap reading_read c.in-Read-answer.is) (field2 c).reading-field2.ensures.1 c.rest_of-part-2.ensures
-
--- ---- the third
-
-abbrev field3 : After-rest_of-part-3 → After-reading_field-field-3
-field3 c = c.before.before
-
-after3 : (c : After-rest_of-part-3) → whole (field1 (field2 (field3 c).before).before) ≡ from_reading4 (time (field1 (field2 (field3 c).before).before)) (activity (field1 (field2 (field3 c).before).before)) c.rest_of-part-3.result.now (reading1 (field2 (field3 c).before).before) (reading2 (field3 c).before) c.in-Read-answer-2.value
-unfolding reading_read
-after3 c =
-    after2 (field3 c).before
-    ∙ field_passed (λ s. from_reading4 (time (field1 (field2 (field3 c).before).before)) (activity (field1 (field2 (field3 c).before).before)) s (reading1 (field2 (field3 c).before).before) (reading2 (field3 c).before)) _ _ (sym (field3 c).reading-field3.ensures.0 ∙ ap reading_read c.in-Read-answer-2.is) (field3 c).reading-field3.ensures.1 c.rest_of-part-3.ensures
+    after3 : (r1 r2 : Reading) → reading_read answer ≡ reading_field (before tab part) → n ≡ index_of tab part → answer ≡ Read value → rest ≡ drop (n + 1) part → from_reading3 time activity part r1 r2 ≡ from_reading4 time activity rest r1 r2 value
+    unfolding reading_read
+    after3 r1 r2 read end is next = field_passed (λ s. from_reading4 time activity s r1 r2) _ _ (sym read ∙ ap reading_read is) end next
 
 pub returns-in-NoReading : goal.returns-in-NoReading
 unfolding event_read reading_read ◌>>=◌
-returns-in-NoReading c = let f = c in sym (by_readings _ _ _ ∙ rw (← f.reading_field-field.ensures.0, ap reading_read c.in-NoReading.is, ← c.refusal_of.ensures))
+returns-in-NoReading c = sym (by_readings _ _ _ ∙ rw (← c.reading_field-field.ensures.answer_value, ap reading_read c.in-NoReading.is, ← c.refusal_of.ensures))
 
 pub returns-in-NoReading-answer : goal.returns-in-NoReading-answer
 unfolding event_read reading_read ◌>>=◌
-returns-in-NoReading-answer c = let f = c in sym (after1 f.before.before.before ∙ rw (← f.reading_field-field-2.ensures.0, ap reading_read c.in-NoReading-answer.is, ← c.refusal_of-in-NoReading-answer.ensures))
+returns-in-NoReading-answer c =
+    sym (after1 c.args.time c.args.activity c.args.part.now c.reading_field-field.ensures.answer_value c.reading_field-field.ensures.length_value c.in-Read.is c.rest_of-part.ensures
+    ∙ rw (← c.reading_field-field-2.ensures.answer_value, ap reading_read c.in-NoReading-answer.is, ← c.refusal_of-in-NoReading-answer.ensures))
 
 pub returns-in-NoReading-answer-2 : goal.returns-in-NoReading-answer-2
 unfolding event_read reading_read ◌>>=◌
-returns-in-NoReading-answer-2 c = let f = c in sym (after2 f.before.before.before ∙ rw (← f.reading_field-field-3.ensures.0, ap reading_read c.in-NoReading-answer-2.is, ← c.refusal_of-in-NoReading-answer-2.ensures))
-
-pub returns-in-Read-answer-3 : goal.returns-in-Read-answer-3
-unfolding event_read reading_read ◌>>=◌
-returns-in-Read-answer-3 c = let f = c in sym (after3 f.before.before ∙ rw (← f.reading_field-field-4.ensures.0, ap reading_read c.in-Read-answer-3.is))
+returns-in-NoReading-answer-2 c =
+    sym (after1 c.args.time c.args.activity c.args.part.now c.reading_field-field.ensures.answer_value c.reading_field-field.ensures.length_value c.in-Read.is c.rest_of-part.ensures
+    ∙ after2 c.args.time c.args.activity c.rest_of-part.result.now c.in-Read.value c.reading_field-field-2.ensures.answer_value c.reading_field-field-2.ensures.length_value c.in-Read-answer.is c.rest_of-part-2.ensures
+    ∙ rw (← c.reading_field-field-3.ensures.answer_value, ap reading_read c.in-NoReading-answer-2.is, ← c.refusal_of-in-NoReading-answer-2.ensures))
 
 pub returns-in-NoReading-answer-3 : goal.returns-in-NoReading-answer-3
 unfolding event_read reading_read ◌>>=◌
-returns-in-NoReading-answer-3 c = let f = c in sym (after3 f.before.before.before ∙ rw (← f.reading_field-field-4.ensures.0, ap reading_read c.in-NoReading-answer-3.is, ← c.refusal_of-in-NoReading-answer-3.ensures))
+returns-in-NoReading-answer-3 c =
+    sym (after1 c.args.time c.args.activity c.args.part.now c.reading_field-field.ensures.answer_value c.reading_field-field.ensures.length_value c.in-Read.is c.rest_of-part.ensures
+    ∙ after2 c.args.time c.args.activity c.rest_of-part.result.now c.in-Read.value c.reading_field-field-2.ensures.answer_value c.reading_field-field-2.ensures.length_value c.in-Read-answer.is c.rest_of-part-2.ensures
+    ∙ after3 c.args.time c.args.activity c.rest_of-part-2.result.now c.in-Read.value c.in-Read-answer.value c.reading_field-field-3.ensures.answer_value c.reading_field-field-3.ensures.length_value c.in-Read-answer-2.is c.rest_of-part-3.ensures
+    ∙ rw (← c.reading_field-field-4.ensures.answer_value, ap reading_read c.in-NoReading-answer-3.is, ← c.refusal_of-in-NoReading-answer-3.ensures))
+
+pub returns-in-Read-answer-3 : goal.returns-in-Read-answer-3
+unfolding event_read reading_read ◌>>=◌
+returns-in-Read-answer-3 c =
+    sym (after1 c.args.time c.args.activity c.args.part.now c.reading_field-field.ensures.answer_value c.reading_field-field.ensures.length_value c.in-Read.is c.rest_of-part.ensures
+    ∙ after2 c.args.time c.args.activity c.rest_of-part.result.now c.in-Read.value c.reading_field-field-2.ensures.answer_value c.reading_field-field-2.ensures.length_value c.in-Read-answer.is c.rest_of-part-2.ensures
+    ∙ after3 c.args.time c.args.activity c.rest_of-part-2.result.now c.in-Read.value c.in-Read-answer.value c.reading_field-field-3.ensures.answer_value c.reading_field-field-3.ensures.length_value c.in-Read-answer-2.is c.rest_of-part-3.ensures
+    ∙ rw (← c.reading_field-field-4.ensures.answer_value, ap reading_read c.in-Read-answer-3.is))

@@ -26,6 +26,7 @@ use Rattle.judge.proofs.ByColumn.{shown_activities}
 use Rattle.declare.proofs.Carried.{only_idle}
 use Rattle.judge.proofs.Rows.{Placed, ready_at, judged_cell, idle_stays, cell_unused, within_arrays}
 use Rattle.judge.proofs.cells.judge_cells.Goals as goal
+use Rattle.judge.proofs.cells.judge_cells.Goals.{then-flags-j, else-flags-j}
 use Rattle.judge.proofs.cells.judge_cells.Goals.{Else-width-p, Start}
 
 pub flags_of-flags-requires : goal.flags_of-flags-requires
@@ -69,7 +70,7 @@ placed c =
     let rows = s.min-rows in
     record {
       few = omega (arith, rows.ensures);
-      long = search (rules, start.well_formed.1.1.0);
+      long = search rules;
       high = width.ensures;
       shows = s.columns_of-columns.ensures;
       flagging = s.flags_of-flags.ensures;
@@ -84,30 +85,30 @@ judge-next-requires c = ready_at (placed c.before.before.before.before.before.be
 pub loop-j-preserved : goal.loop-j-preserved
 unfolding no_rule no_condition no_comparison no_event
 loop-j-preserved c =
-    let here = c.before.before.before in
-    let l = here.loop-j in
-    let start = here in
-    let a = start.args in
-    let full : length a.cells ≡ places = search (rules, start.well_formed.1.1.1.1.1.0) in
+    let l = c.loop-j in
+    let a = c.args in
+    let full : length c.args.cells ≡ places = search rules in
     let before = get_or l.cells l.j idle_cell in
-    let rows = here.min-rows in
+    let rows = c.min-rows in
     let low : l.j < places = omega (arith, rows.ensures) in
-    let width = here.min-width in
+    let width = c.min-width in
     let few : width.result ≤ most_events = omega (arith, width.ensures) in
+    let here = placed c.before.before.before in
     let f : ℕ → Cell → Cell = changed_cell (judged_at a.running a.table (take a.n a.events) a.horizon) rows.result width.result in
-    ⊎_elim
-    (λ w. (
-      omega arith,
-      subst (λ (u : List Cell). Swept f a.cells u (l.j + 1)) (sym w.12) (swept_again l.invariant.1 idle_cell (omega arith) (judged_cell (placed here) a.running a.horizon before w.9.ensures)),
-      subst₂ (λ (u : List Cell) (v : List Totals). Counting width.result u a.totals v (l.j + 1)) (sym w.12) (sym w.13) (counting_set l.invariant.2 few low (omega arith) _ w.11.ensures),
-    ))
-    (λ w. let none = neither _ _ w.0.left in
-    let idle = only_idle _ (sym c.is_idle.ensures ∙ not-false _ none.1) in (
-      omega arith,
-      subst (λ (u : List Cell). Swept f a.cells u (l.j + 1)) (sym w.1) (swept_kept l.invariant.1 idle_cell (omega arith) (idle_stays (placed here) a.running a.horizon before none.0 idle)),
-      subst₂ (λ (u : List Cell) (v : List Totals). Counting width.result u a.totals v (l.j + 1)) (sym w.1) (sym w.2) (counting_idle l.invariant.2 few low idle),
-    ))
-    c.if-flags-j.branch
+    elim c.if-flags-j.branch [
+      then-flags-j w ↦ (
+        omega arith,
+        subst (λ (u : List Cell). Swept f a.cells u (l.j + 1)) (sym w.cells-is) (swept_again l.invariant.1 idle_cell (omega arith) (judged_cell here a.running a.horizon before w.judge-next.ensures)),
+        subst₂ (λ (u : List Cell) (v : List Totals). Counting width.result u a.totals v (l.j + 1)) (sym w.cells-is) (sym w.totals-is) (counting_set l.invariant.2 few low (omega arith) _ w.with_standing.ensures),
+      )
+    | else-flags-j w ↦
+        let none = neither _ _ w.if-flags-j.false in
+        let idle = only_idle _ (sym c.is_idle.ensures ∙ not-false _ none.1) in (
+          omega arith,
+          subst (λ (u : List Cell). Swept f a.cells u (l.j + 1)) (sym w.cells-is) (swept_kept l.invariant.1 idle_cell (omega arith) (idle_stays here a.running a.horizon before none.0 idle)),
+          subst₂ (λ (u : List Cell) (v : List Totals). Counting width.result u a.totals v (l.j + 1)) (sym w.cells-is) (sym w.totals-is) (counting_idle l.invariant.2 few low idle),
+        )
+    ]
 
 pub returns : goal.returns
 unfolding judged_cells changed
@@ -118,7 +119,7 @@ returns c =
     let rows = at.min-rows in
     let start = at.before.before.before.before.before.before.before in
     let a = start.args in
-    let full : length a.cells ≡ places = search (rules, start.well_formed.1.1.1.1.1.0) in
+    let full : length c.args.cells ≡ places = search rules in
     let few : rows.result ≤ most_rules = omega (arith, rows.ensures) in
     let f : ℕ → ℕ → Standing → Standing = judged_at a.running a.table (take a.n a.events) a.horizon in
     let most : width.result ≤ most_events = omega (arith, width.ensures) in (

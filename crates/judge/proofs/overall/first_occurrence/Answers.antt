@@ -14,7 +14,7 @@ use Rattle.judge.proofs.Occurrences.{first_begin, occurs_other, occurs_same, occ
 use borrow.Author.Rules.{rules}
 use borrow.Author.Tests.{eq-eqb, ne_eqb}
 use Rattle.judge.proofs.overall.first_occurrence.Goals as goal
-use Rattle.judge.proofs.overall.first_occurrence.Goals.{After-meets_inside, Joined-events-p}
+use Rattle.judge.proofs.overall.first_occurrence.Goals.{After-meets_inside, Joined-events-p, then-events-p+else-meets_inside, else-events-p}
 
 pub loop-p-init : goal.loop-p-init
 loop-p-init c =
@@ -46,10 +46,11 @@ unfolding no_event
 passed c =
     let l = c.loop-p in
     let a = c.args in
-    ⊎_elim
-    (λ w. said record { before = record { before = record { before = c.before; if1 = w.0 }; e = w.1 }; meets-inside = w.2 } ∙ w.3.left)
-    (λ w. occurs_other a.rule a.activity a.n a.events l.invariant.1 l.p (omega arith) (ne_eqb _ _ w.left))
-    c.if-events-p.branch
+    elim c.if-events-p.branch [
+      then-events-p+else-meets_inside w ↦
+          occurs_same a.rule a.activity a.n a.events l.invariant.1 l.p (omega arith) l.invariant.2 (eq-eqb _ _ w.if-events-p.true) ∙ sym w.meets_inside.ensures ∙ w.if-meets_inside.false
+    | else-events-p w ↦ occurs_other a.rule a.activity a.n a.events l.invariant.1 l.p (omega arith) (ne_eqb _ _ w.if-events-p.false)
+    ]
 
 pub loop-p-preserved : goal.loop-p-preserved
 loop-p-preserved c =

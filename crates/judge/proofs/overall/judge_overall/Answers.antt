@@ -19,6 +19,7 @@ use Rattle.standings.specs.Places.{idle_cell, overall_cell, changed_overall}
 use Rattle.judge.specs.Cells.{judged_at, judged_overall}
 use Rattle.judge.proofs.Occurrences.{taken_within, cell_judged, cell_stays, cell_past}
 use Rattle.judge.proofs.overall.judge_overall.Goals as goal
+use Rattle.judge.proofs.overall.judge_overall.Goals.{then-is_overall-is_decided, else-is_overall-is_decided}
 
 pub loop-k-init : goal.loop-k-init
 loop-k-init c = (omega arith, swept_none _ _)
@@ -33,21 +34,21 @@ pub loop-k-preserved : goal.loop-k-preserved
 unfolding no_rule no_condition no_comparison
 loop-k-preserved c =
     let l = c.loop-k in
-    let start = c in
-    let a = start.args in
-    let rows = c.min-rows in
-    let low : l.k < a.table.count = omega (arith, rows.ensures) in
-    let full : length a.cells ≡ most_rules = search rules in
+    let a = c.args in
+    let low : l.k < a.table.count = omega (arith, c.min-rows.ensures) in
+    let full : length c.args.cells ≡ most_rules = search rules in
     let width = c.min-width.result in
     let f : ℕ → Cell → Cell = overall_cell (is_overall_rule a.table) (judged_at a.running a.table (take width a.events) a.horizon) in
-    let of-cycle = c.is_overall.ensures in
+    let of_cycle = c.is_overall.ensures in
     let decided = c.is_decided.ensures in (
       omega arith,
-      ⊎_elim
-          (λ w. let p = and₂ w.0.taken in
-          subst (λ (u : List Cell). Swept f a.cells u (l.k + 1)) (sym w.2) (swept_again l.invariant.1 idle_cell (omega arith) (cell_judged a.table a.running _ a.horizon l.k _ low (sym of-cycle ∙ p.0) (sym decided ∙ not-true _ p.1) w.1.ensures)))
-          (λ w. subst (λ (u : List Cell). Swept f a.cells u (l.k + 1)) (sym w.1) (swept_kept l.invariant.1 idle_cell (omega arith) (cell_stays a.table a.running _ a.horizon l.k _ low (ap₂ (λ x y. x && not y) (sym of-cycle) (sym decided) ∙ w.0.left))))
-          c.if-is_overall-is_decided.branch,
+      elim c.if-is_overall-is_decided.branch [
+        then-is_overall-is_decided w ↦
+            let p = and₂ w.if-is_overall-is_decided.true in
+            subst (λ (u : List Cell). Swept f a.cells u (l.k + 1)) (sym w.cells-is) (swept_again l.invariant.1 idle_cell (omega arith) (cell_judged a.table a.running _ a.horizon l.k _ low (sym of_cycle ∙ p.0) (sym decided ∙ not-true _ p.1) w.judge_cycle-next.ensures))
+      | else-is_overall-is_decided w ↦
+            subst (λ (u : List Cell). Swept f a.cells u (l.k + 1)) (sym w.cells-is) (swept_kept l.invariant.1 idle_cell (omega arith) (cell_stays a.table a.running _ a.horizon l.k _ low (ap₂ (λ x y. x && not y) (sym of_cycle) (sym decided) ∙ w.if-is_overall-is_decided.false)))
+      ],
     )
 
 pub returns : goal.returns

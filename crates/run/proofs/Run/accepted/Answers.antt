@@ -11,25 +11,15 @@ use Rattle.run.specs.declared.Outcome.TheVariants.{Done}
 use Rattle.run.specs.Records.{events_of, with_events, with_clock, with_standings, with_totals, counted}
 use Rattle.run.specs.Calls.{judged_run}
 use Rattle.run.proofs.Stored.{counted_by_lem}
-use Rattle.run.proofs.Run.accepted.Statement.{statement}
-use Rattle.run.proofs.Run.accepted.Tie as tie
+use Rattle.run.proofs.Run.accepted.Goals as goal
 
-judge-overall-requires : tie.Need-judge-overall-requires
-judge-overall-requires c κs = search rules
-
-zero-totals-requires : tie.Need-zero-totals-requires
-zero-totals-requires c κs = search rules
-
-judge-cells-requires : tie.Need-judge-cells-requires
-judge-cells-requires c κs = search rules
-
-returns : tie.Need-returns
+pub returns : goal.returns
 unfolding judged_run events_of
 returns c =
-    let cells = c.before.before.judge-cells in
-    let begun = c.before.before.before.zero-totals in
-    let overall = c.before.before.before.before.judge-overall in
-    let start = c.before.before.before.before.before.before.before.before.before in
+    let cells = c.judge_cells-next in
+    let begun = c.zero_totals-begun in
+    let overall = c.judge_overall-zero in
+    let start = c in
     let a = start.args in
     let r : Run = with_clock (with_events a.self a.count a.events) a.clock in
     let next : Run = with_standings r cells.result.cells overall.result in
@@ -37,12 +27,3 @@ returns c =
     (ap (with_totals next) (counted_by_lem next begun.ensures cells.ensures.1)
     ∙ ap₂ (λ (x y : List Cell). counted (with_standings r x y)) (cells.ensures.0 ∙ ap (λ (h : ℕ). judged_cells true r.table r.events r.count h r.cells) start.requires)
     (overall.ensures ∙ ap (λ (h : ℕ). judged_overall true r.table r.events r.count h r.overall) start.requires))
-
-pub accepted-spec : {M : Type 1} → statement M
-accepted-spec =
-    tie.close
-    (tie.spec
-    judge-overall-requires
-    zero-totals-requires
-    judge-cells-requires
-    returns)

@@ -1,0 +1,6 @@
+-- The two parts of the definition.
+use borrow.Author.Rules.{rules}
+use Rattle.run.proofs.record.valid_zero.Goals as goal
+
+pub returns : goal.returns
+returns c = rw (c.valid_standing.ensures, c.is_idle.ensures)
