@@ -1,4 +1,6 @@
 // The rules text: a table of rules, or the first refusal and its line.
+#![tactic(auto)]
+
 mod window; // window.rt: the end of a window
 mod comparison; // comparison.rt: comparisons, and what they compare with
 mod condition; // condition.rt: conditions

@@ -1,14 +1,14 @@
 -- `read_rules`: the turns of `line/proofs/Turns`.
 use mathlib.Core.Path.{◌≡◌, ap}
 use mathlib.Core.List.{List}
-use Prim.Native.Nat.{ℕ, ◌-◌, ◌≤◌, ◌<◌}
+use Prim.Native.Nat.{ℕ, ◌≤◌, ◌<◌}
 use native.Mathlib.Omega.{arith}
 use lib.ListN.{length, take}
 use Rattle.declare.specs.Limits.{most_rules}
 use Rattle.declare.specs.Rules.{no_rule}
 use Rattle.declare.specs.Refusals.{number_of}
 use Rattle.declare.specs.Answers.{accepted, ◌>>=◌}
-use Rattle.line.proofs.Turns.{Turn, first_turn, turn_count, last_turn, InHand, turn_refused, turn_within, turn_less, turn_taken}
+use Rattle.line.proofs.Turns.{first_turn, turn_count, last_turn, InHand, turn_refused, turn_within, turn_less, turn_taken}
 use Rattle.rule_text.specs.Types.{Rule, RuleAnswer, Found}
 use Rattle.rule_text.specs.Rules.{rule_of, in_table, rule_after, rules_text_of}
 use Rattle.rule_text.specs.Reads.{rule_read}

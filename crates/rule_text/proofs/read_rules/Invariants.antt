@@ -1,18 +1,9 @@
-use mathlib.Core.Path.{◌≡◌, ap}
-use mathlib.Core.List.{List}
-use Prim.Native.Nat.{◌-◌, ◌≤◌, ◌<◌}
-use native.Mathlib.Omega.{arith}
-use lib.ListN.{length, take}
+use Prim.Native.Nat.{◌-◌}
+use lib.ListN.{length}
 use Rattle.declare.specs.Limits.{most_rules}
 use Rattle.declare.specs.Rules.{no_rule}
-use Rattle.declare.specs.Refusals.{number_of}
-use Rattle.declare.specs.Answers.{accepted, ◌>>=◌}
-use Rattle.line.proofs.Turns.{Turn, first_turn, turn_count, last_turn, InHand, turn_refused, turn_within, turn_less, turn_taken}
-use Rattle.rule_text.specs.Types.{Rule, Found}
-use Rattle.rule_text.specs.Rules.{rule_of, in_table, rule_after, rules_text_of}
-use Rattle.rule_text.specs.Reads.{rule_read}
-use Rattle.rule_text.proofs.Turns.{full, in_table_lem, answer_refused, answer_accepted}
-use borrow.Author.Rules.{rules}
+use Rattle.line.proofs.Turns.{Turn}
+use Rattle.rule_text.specs.Rules.{rule_of, in_table}
 use Rattle.rule_text.proofs.read_rules.Given as goal
 
 abbrev pub invariant-loop-at : goal.invariant-loop-at

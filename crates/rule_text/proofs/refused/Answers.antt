@@ -1,7 +1,6 @@
 -- `refused`: no rule, and the refusal.
 use mathlib.Core.Path.{refl}
 use Rattle.declare.specs.Slots.{padded, table_of}
-use borrow.Author.Rules.{rules}
 use Rattle.rule_text.proofs.refused.Goals as goal
 
 pub returns : goal.returns

@@ -2,7 +2,7 @@
 use mathlib.Core.Bool.{true}
 use mathlib.Core.List.{List}
 use mathlib.Core.Path.{◌≡◌, sym, ◌∙◌, ap}
-use Prim.Native.Nat.{ℕ, ◌+◌, ◌-◌}
+use Prim.Native.Nat.{ℕ, ◌-◌}
 use native.Mathlib.Omega.{arith}
 use borrow.Author.Tests.{eq-eqb, ne_eqb}
 use borrow.Author.Rules.{rules}
@@ -10,7 +10,7 @@ use lib.ListN.{get_or, drop, length-drop}
 use Rattle.declare.specs.Refusals.{number_of}
 use Rattle.declare.specs.Answers.{accepted}
 use Rattle.rule_text.specs.Types.{KAnswer}
-use Rattle.rule_text.specs.Comparisons.{reading_digit, digit_of, k_field, activation_field}
+use Rattle.rule_text.specs.Comparisons.{reading_digit, digit_of, k_field}
 use Rattle.rule_text.specs.Reads.{up_to_comma, k_read, reference_read}
 use Rattle.rule_text.proofs.Comparisons.{changed, length_le, digit_is, digit_none, digit_low, activation_no_digit, activation_no_colon, activation_part}
 use Rattle.rule_text.proofs.comparison.activation.Goals as goal

@@ -2,13 +2,13 @@
 use mathlib.Core.Bool.{Bool, true}
 use mathlib.Core.List.{List}
 use mathlib.Core.Path.{◌≡◌, sym, ◌∙◌, ap}
-use Prim.Native.Nat.{ℕ, ◌+◌, ◌-◌}
+use Prim.Native.Nat.{ℕ, ◌-◌}
 use native.Mathlib.Omega.{arith}
 use lib.ListN.{get_or, drop, length-drop}
 use Rattle.declare.specs.Refusals.{number_of}
 use Rattle.declare.specs.Answers.{accepted}
 use Rattle.rule_text.specs.Types.{OperatorAnswer, ReferenceAnswer}
-use Rattle.rule_text.specs.Comparisons.{reading_digit, digit_of, operator_of, reference_field, comparison_field}
+use Rattle.rule_text.specs.Comparisons.{reading_digit, digit_of, operator_of, reference_field}
 use Rattle.rule_text.specs.Reads.{up_to_comma, operator_read, reference_read, comparison_read}
 use Rattle.rule_text.proofs.Comparisons.{changed, length_le, digit_is, digit_none, digit_low, comparison_no_digit, comparison_no_operator, comparison_part}
 use Rattle.rule_text.proofs.comparison.comparison.Goals as goal

@@ -3,9 +3,7 @@
 use mathlib.Core.Path.{◌≡◌, sym, ◌∙◌, ap}
 use mathlib.Core.List.{List}
 use Prim.Native.Nat.{ℕ}
-use mir.Syntax.{w32}
-use mir.Facts.{to_z-of_z}
-use borrow.Author.Rules.{rules, sfits_of}
+use borrow.Author.Rules.{rules}
 use Rattle.number.specs.Number.{integer_of}
 use Rattle.number.specs.declared.IntegerAnswer.{IntegerAnswer}
 use Rattle.number.specs.Reader.{integer_in}

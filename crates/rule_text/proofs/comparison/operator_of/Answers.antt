@@ -1,5 +1,4 @@
 -- `comparison::operator_of`, byte by byte.
-use borrow.Author.Tests.{ne_eqb}
 use borrow.Author.Rules.{rules}
 use Rattle.rule_text.specs.Comparisons.{operator_of}
 use Rattle.rule_text.specs.Reads.{operator_read}

@@ -1,14 +1,13 @@
 -- `comparison::reference`: k, or what follows `@` in a correlation.
 use mathlib.Core.List.{List}
 use mathlib.Core.Path.{◌≡◌, sym, ◌∙◌, ap}
-use Prim.Native.Nat.{ℕ, ◌+◌}
+use Prim.Native.Nat.{ℕ}
 use native.Mathlib.Omega.{arith}
 use borrow.Author.Tests.{eq-eqb, ne_eqb}
 use lib.ListN.{get_or, drop, length-drop}
 use Rattle.declare.specs.Refusals.{number_of}
-use Rattle.declare.specs.Answers.{accepted}
 use Rattle.rule_text.specs.Types.{ReferenceAnswer}
-use Rattle.rule_text.specs.Comparisons.{activation_field, reference_field}
+use Rattle.rule_text.specs.Comparisons.{activation_field}
 use Rattle.rule_text.specs.Reads.{up_to_comma, reference_read}
 use Rattle.rule_text.proofs.Comparisons.{changed, length_le, reference_constant, reference_refused, reference_part}
 use Rattle.rule_text.proofs.comparison.reference.Goals as goal

@@ -1,7 +1,6 @@
 -- `comparison::refusal_of` names the causes whose numbers are 4 and 3.
 use Rattle.declare.specs.Refusals.{number_of}
 use Rattle.rule_text.specs.Comparisons.{k_number}
-use borrow.Author.Rules.{rules}
 use Rattle.rule_text.proofs.comparison.refusal_of.Goals as goal
 
 pub returns-in-Form : goal.returns-in-Form

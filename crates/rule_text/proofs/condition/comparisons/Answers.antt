@@ -18,7 +18,6 @@ use Rattle.rule_text.specs.Conditions.{comma, comparisons_after, condition_of, c
 use Rattle.rule_text.specs.Reads.{up_to_comma, comparison_read, condition_read}
 use Rattle.rule_text.proofs.Comparisons.{measured, length_le, comma_refused}
 use Rattle.rule_text.proofs.Conditions.{comparisons_slots, fields_at, fields_start, fields_end, fields_next, after_refused, after_full, after_next}
-use borrow.Author.Rules.{rules}
 use Rattle.rule_text.proofs.condition.comparisons.Goals as goal
 
 -- a comparison is read from `at` on

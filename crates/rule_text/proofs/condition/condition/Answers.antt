@@ -2,7 +2,6 @@
 use mathlib.Core.Path.{sym, ◌∙◌}
 use Rattle.rule_text.specs.Conditions.{condition_field}
 use Rattle.rule_text.specs.Reads.{condition_read}
-use borrow.Author.Rules.{rules}
 use Rattle.rule_text.proofs.condition.condition.Goals as goal
 
 pub returns-then-is_dash : goal.returns-then-is_dash

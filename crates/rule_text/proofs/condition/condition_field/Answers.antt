@@ -4,7 +4,6 @@ use Prim.Native.Nat.{ℕ}
 use lib.ListN.{take}
 use Rattle.line.proofs.Fields.{before_take}
 use Rattle.rule_text.specs.Conditions.{condition_field}
-use borrow.Author.Rules.{rules}
 use Rattle.rule_text.proofs.condition.condition_field.Goals as goal
 
 pub returns : goal.returns

@@ -3,7 +3,6 @@ use mathlib.Core.Path.{◌≡◌, ◌∙◌}
 use native.Mathlib.Omega.{arith}
 use Rattle.declare.specs.Conditions.{comparisons_of}
 use Rattle.rule_text.specs.Conditions.{condition_of}
-use borrow.Author.Rules.{rules}
 use Rattle.rule_text.proofs.condition.with.Goals as goal
 
 pub returns-in-0 : goal.returns-in-0

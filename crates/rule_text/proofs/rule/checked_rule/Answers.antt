@@ -1,11 +1,9 @@
 -- `rule::checked_rule`: the tests of the definition, in its order.
 use mathlib.Core.Path.{sym, ◌∙◌}
-use borrow.Author.Tests.{not-true, not-false}
 use Rattle.declare.specs.Refusals.{number_of}
 use Rattle.declare.proofs.Answers.{passed, stopped}
 use Rattle.rule_text.specs.Rules.{checked_rule}
 use Rattle.rule_text.specs.Reads.{rule_read}
-use borrow.Author.Rules.{rules}
 use Rattle.rule_text.proofs.rule.checked_rule.Goals as goal
 
 pub returns-then-not-is_above : goal.returns-then-not-is_above

@@ -3,7 +3,6 @@ use mathlib.Core.Path.{ap}
 use Rattle.declare.specs.Answers.{◌>>=◌}
 use Rattle.line.specs.Values.{natural_answer, byte_read}
 use Rattle.rule_text.specs.Reads.{end_read, head_read, head_by}
-use borrow.Author.Rules.{rules}
 use Rattle.rule_text.proofs.rule.head_of.Goals as goal
 
 pub returns-in-NoByte : goal.returns-in-NoByte

@@ -7,7 +7,6 @@ use Rattle.line.proofs.Lines.{end_is, end_within, no_line_end, other_count, fiel
 use Rattle.rule_text.specs.Rules.{rule_of}
 use Rattle.rule_text.specs.Reads.{rule_read}
 use Rattle.rule_text.proofs.Lines.{field_count}
-use borrow.Author.Rules.{rules}
 use Rattle.rule_text.proofs.rule.rule_line.Goals as goal
 
 pub overflow_add-next : goal.overflow_add-next

@@ -2,7 +2,6 @@
 use mathlib.Core.Path.{ap}
 use Rattle.declare.specs.Answers.{◌>>=◌}
 use Rattle.rule_text.specs.Reads.{condition_read, head_read, rule_read, rule_by}
-use borrow.Author.Rules.{rules}
 use Rattle.rule_text.proofs.rule.rule_of.Goals as goal
 
 pub returns-in-NoHead : goal.returns-in-NoHead

@@ -3,7 +3,6 @@ use mathlib.Core.Path.{sym, ◌∙◌}
 use Rattle.declare.specs.Answers.{◌>>=◌}
 use Rattle.line.specs.Values.{natural_answer}
 use Rattle.rule_text.specs.Reads.{end_read, end_by}
-use borrow.Author.Rules.{rules}
 use Rattle.rule_text.proofs.window.end_answer.Goals as goal
 
 pub returns-then-is_dash : goal.returns-then-is_dash

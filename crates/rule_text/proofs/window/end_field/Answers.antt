@@ -10,7 +10,6 @@ use Rattle.line.specs.Values.{number_field}
 use Rattle.line.specs.Scans.{field_scan}
 use Rattle.rule_text.specs.Rules.{end_field}
 use Rattle.rule_text.specs.Reads.{end_by}
-use borrow.Author.Rules.{rules}
 use Rattle.rule_text.proofs.window.end_field.Goals as goal
 
 pub returns : goal.returns

@@ -1,6 +1,5 @@
 -- `window::is_above`, by the end.
 use Rattle.rule_text.specs.Rules.{is_above}
-use borrow.Author.Rules.{rules}
 use Rattle.rule_text.proofs.window.is_above.Goals as goal
 
 pub returns-in-Never : goal.returns-in-Never
