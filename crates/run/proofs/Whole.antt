@@ -33,7 +33,7 @@ use Rattle.declare.proofs.Carried.{only_idle}
 use Rattle.declare.proofs.Lists.{replicated}
 use Rattle.declare.proofs.Tables.{rules_within}
 use Rattle.standings.specs.declared.Cell.{Cell}
-use Rattle.standings.specs.Places.{places, idle_cell, idle_cells, idle_overall, overall_in, zero_in, with_zero, in_use}
+use Rattle.standings.specs.Places.{places, idle_cell, idle_cells, idle_overall, overall_in, standing_in, zero_in, with_zero, in_use}
 use Rattle.standings.specs.Totals.{no_totals, idle_totals}
 use Rattle.standings.proofs.Places.{from_one}
 use Rattle.standings.proofs.Changes.{changed_length, changed_kept, idle_everywhere, overall_length, overall_kept}
@@ -164,7 +164,9 @@ module _ (t : Table) (valid : valid_table t ≡ true) (c : Course) (few : length
       same_cells t.count (length c.events) (whole_cells t c.events runs h) r.cells
       (record { size = whole_length t c.events runs h; idle = whole_idle t c.events runs h })
       (record { size = g.cells; idle = g.idle })
-      (λ k i a b c d. sym (from_one _ _ i c) ∙ alike k i a b d ∙ from_one _ _ i c)
+      (λ k i a b low d.
+      let w = whole t c.events runs h in
+      sym (from_one (zero_in w.table w.overall k) (standing_in w.cells k) i low) ∙ alike k i a b d ∙ from_one (zero_in r.table r.overall k) (standing_in r.cells k) i low)
 
   same_zero : whole_overall t c.events runs h ≡ r.overall
   same_zero =

@@ -22,7 +22,7 @@ past_valid : (c : Else-not-valid_run) → valid_run c.args.self ≡ true
 past_valid c = sym c.valid_run.ensures ∙ c.if-not-valid_run.false
 
 past_range : (c : Else-not-well_formed) → well_formed c.args.event ≡ true
-past_range c = sym c.before.well-formed-2.ensures ∙ c.if-not-well_formed.false
+past_range c = sym c.well_formed-2.ensures ∙ c.if-not-well_formed.false
 
 -- not below the horizon
 past_time : (c : Else-event-horizon) → horizon_of c.args.self ≤ c.args.event.time
@@ -42,7 +42,7 @@ unfolding number_of
 returns-then-not-well_formed c =
     let running = c in
     refuses c.refused-then-not-well_formed.ensures
-    (take_out_of_range _ _ (past_valid running.before.before.before.before) running.if-self.false (sym c.before.before.well-formed-2.ensures ∙ c.if-not-well_formed.true))
+    (take_out_of_range _ _ (past_valid running.before.before.before.before) running.if-self.false (sym c.well_formed-2.ensures ∙ c.if-not-well_formed.true))
 
 pub horizon-requires : goal.horizon-requires
 horizon-requires c = (valid_parts _ (past_valid c.before.before.before.before)).events_fit
@@ -70,7 +70,7 @@ unfolding entered
 accepted-requires c =
     let follows = c.before in
     let start = follows in
-    let slots : length start.args.self.events ≡ 256 = simp length-map at start.well_formed.0.1.1.1.1.1.0.1.0.1 in
+    let slots : length c.args.self.events ≡ 256 = search rules in
     sym (horizon_taken _ _ (omega (arith, c.if-n-ge-EVENTS.false)) (past_time follows))
 
 pub returns : goal.returns

@@ -25,13 +25,9 @@ use Rattle.standings.proofs.Places.{rules_rest}
 use Rattle.standings.proofs.Counting.{Counting, counting_none, counting_idle, counting_set, counting_all}
 use Rattle.run.specs.Close.{closed_at, closed_cells, IdlePast}
 use Rattle.run.proofs.Closing.{cell_unused, cell_idle, cell_closed}
+use Rattle.run.proofs.close.closed_cells.Invariants.{Closed}
 use Rattle.run.proofs.close.closed_cells.Goals as goal
 use Rattle.run.proofs.close.closed_cells.Goals.{Start}
-
--- of n events, before place j
-pub record Closed (t : Table) (l a : List Cell) (begun now : List Totals) (j n : ℕ) : Type 0 where
-  pub cells : (es : List Event) → Swept (changed_cell (closed_at t es) t.count n) l a j
-  pub totals : Counting n a begun now j
 
 full : (c : Start) → length c.args.cells ≡ places
 full c = search rules

@@ -23,13 +23,9 @@ use Rattle.declare.proofs.Lists.{all_each}
 use Rattle.run.proofs.Places.{stands_at, idle_anywhere}
 use Rattle.run.proofs.Checks.{judged_most, stands_judged, flat_standings}
 use borrow.Author.Rules.{rules}
+use Rattle.run.proofs.record.checked_rows.Invariants.{valid}
 use Rattle.run.proofs.record.checked_rows.Goals as goal
 use Rattle.run.proofs.record.checked_rows.Goals.{Start}
-
--- the cell at place i may stand there
-abbrev valid : Bool → ℕ → List Cell → List ℕ → ℕ → Bool
-valid closed count cells counts i =
-    stands_at closed count (get_or counts (i / 256) 0) (i % 256 + 1) (get_or cells i idle_cell).standing
 
 one_invalid : (closed : Bool) (t : Table) (count : ℕ) (cells : List Cell) (counts : List ℕ) → EventsJudged t count counts → (j : ℕ) → j < t.count * 256 → valid closed count cells counts j ≡ false → false ≡ valid_standings closed t count cells
 one_invalid closed t count cells counts f j h e =

@@ -25,7 +25,7 @@ use borrow.Author.Rules.{rules}
 use Rattle.run.proofs.record.checked_rows.Given as goal
 
 -- the cell at place i may stand there
-abbrev valid : Bool → ℕ → List Cell → List ℕ → ℕ → Bool
+abbrev pub valid : Bool → ℕ → List Cell → List ℕ → ℕ → Bool
 valid closed count cells counts i =
     stands_at closed count (get_or counts (i / 256) 0) (i % 256 + 1) (get_or cells i idle_cell).standing
 

@@ -2,13 +2,13 @@
 -- was.
 use mathlib.Core.Path.{sym, subst, ◌∙◌}
 use mathlib.Core.List.{List}
-use mathlib.Core.Logic.{⊎_elim}
 use Prim.Native.Nat.{ℕ, ◌≤◌, ◌<◌, ◌-◌, ◌+◌}
 use native.Mathlib.Omega.{arith}
 use Rattle.declare.specs.Rules.{no_comparison, no_condition, no_rule}
 use Rattle.run.proofs.Checks.{Counted, counted_none, counted_zero, counted_kept}
 use borrow.Author.Rules.{rules}
 use Rattle.run.proofs.record.events_judged.Goals as goal
+use Rattle.run.proofs.record.events_judged.Goals.{then-is_overall, else-is_overall}
 
 pub loop-k-init : goal.loop-k-init
 loop-k-init c = (omega arith, counted_none _ _)
@@ -21,10 +21,10 @@ loop-k-preserved c =
     let low : l.k < 16 = omega (arith, c.requires) in
     let says = sym c.is_overall.ensures in (
       omega arith,
-      ⊎_elim
-          (λ w. subst (λ (u : List ℕ). Counted a.table a.count u (l.k + 1)) (sym w.1) (counted_zero a.table a.count l.invariant.1 low (says ∙ w.0.taken)))
-          (λ w. subst (λ (u : List ℕ). Counted a.table a.count u (l.k + 1)) (sym w.1) (counted_kept a.table a.count l.invariant.1 low (says ∙ w.0.left)))
-          c.if-is_overall.branch,
+      elim c.if-is_overall.branch [
+        then-is_overall w ↦ subst (λ (u : List ℕ). Counted a.table a.count u (l.k + 1)) (sym w.counts-is) (counted_zero a.table a.count l.invariant.1 low (says ∙ w.if-is_overall.true))
+      | else-is_overall w ↦ subst (λ (u : List ℕ). Counted a.table a.count u (l.k + 1)) (sym w.counts-is) (counted_kept a.table a.count l.invariant.1 low (says ∙ w.if-is_overall.false))
+      ],
     )
 
 pub returns : goal.returns

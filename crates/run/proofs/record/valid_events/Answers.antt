@@ -21,7 +21,7 @@ pub loop-p-preserved : goal.loop-p-preserved
 unfolding no_event
 loop-p-preserved c =
     let l = c.loop-p in
-    (omega arith, l.invariant.1, followed_again l.invariant.2 (omega arith) c.before.well-formed-2.ensures)
+    (omega arith, l.invariant.1, followed_again l.invariant.2 (omega arith) c.well_formed-in-loop-p.ensures)
 
 pub returns : goal.returns
 unfolding valid_events

@@ -18,10 +18,8 @@ use Rattle.standings.specs.Places.{idle_cell, overall_in}
 use Rattle.run.specs.Records.{valid_zero, valid_overall}
 use Rattle.standings.proofs.Places.{zero_check, zero_cell}
 use borrow.Author.Rules.{rules}
+use Rattle.run.proofs.record.valid_overall.Invariants.{valid}
 use Rattle.run.proofs.record.valid_overall.Goals as goal
-
-abbrev valid : Bool → Table → ℕ → List Cell → ℕ → Bool
-valid closed t count overall k = not (is_overall_rule t (k + 1)) || valid_zero closed count (overall_in overall (k + 1))
 
 module _ (closed : Bool) (t : Table) (count : ℕ) (overall : List Cell) (k : ℕ) (low : k < t.count) where
   abbrev code : ℕ

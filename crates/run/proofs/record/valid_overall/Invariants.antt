@@ -19,7 +19,7 @@ use Rattle.standings.proofs.Places.{zero_check, zero_cell}
 use borrow.Author.Rules.{rules}
 use Rattle.run.proofs.record.valid_overall.Given as goal
 
-abbrev valid : Bool → Table → ℕ → List Cell → ℕ → Bool
+abbrev pub valid : Bool → Table → ℕ → List Cell → ℕ → Bool
 valid closed t count overall k = not (is_overall_rule t (k + 1)) || valid_zero closed count (overall_in overall (k + 1))
 
 abbrev pub invariant-loop-k : goal.invariant-loop-k

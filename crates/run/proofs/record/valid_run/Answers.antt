@@ -40,10 +40,10 @@ pub returns-then-not-rows : goal.returns-then-not-rows
 unfolding valid_run
 returns-then-not-rows c =
     let e = c.before.before.before.before.before.before in
-    rw (past_table e.before.before, past_events e, sym c.checked_rows-rows.ensures.0 ∙ c.if-not-rows.true)
+    rw (past_table e.before.before, past_events e, sym c.checked_rows-rows.ensures.0 ∙ not-true _ c.if-not-rows.true)
 
 past_rows : (c : Else-not-rows) → let r = run_of c.before.before.before.before.before.before in valid_standings r.closed r.table r.count r.cells ≡ true
-past_rows c = sym c.checked_rows-rows.ensures.0 ∙ c.if-not-rows.false
+past_rows c = sym c.checked_rows-rows.ensures.0 ∙ not-false _ c.if-not-rows.false
 
 pub valid_overall-requires : goal.valid_overall-requires
 valid_overall-requires c = rules_within _ (past_table c.before.before.before.before.before.before.before.before)
@@ -68,4 +68,4 @@ returns c =
     let begun = f.zero_totals-begun.ensures ∙ ap (zero_totals _ _) f.idle_totals.ensures in
     let rules = rules_within _ (past_table e.before.before) in
     rw (past_table e.before.before, past_events e, past_rows f, sym g.valid_overall.ensures ∙ g.if-not-valid_overall.false)
-    (c.valid_totals.ensures ∙ totals_checked (run_of e) rules (events_within _ _ (past_events e)) begun (rows.ensures.1 (f.if-not-rows.false)))
+    (c.valid_totals.ensures ∙ totals_checked (run_of e) rules (events_within _ _ (past_events e)) begun (rows.ensures.1 (not-false _ f.if-not-rows.false)))

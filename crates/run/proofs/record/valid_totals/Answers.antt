@@ -14,10 +14,8 @@ use Rattle.declare.proofs.Sweeps.{all_none, all_again}
 use Rattle.standings.specs.declared.totals.Totals.{Totals}
 use Rattle.standings.specs.Totals.{no_totals}
 use Rattle.run.specs.Records.{same_totals}
+use Rattle.run.proofs.record.valid_totals.Invariants.{same}
 use Rattle.run.proofs.record.valid_totals.Goals as goal
-
-abbrev same : List Totals → List Totals → ℕ → Bool
-same stored counted k = same_totals (get_or stored k no_totals) (get_or counted k no_totals)
 
 pub loop-k-init : goal.loop-k-init
 loop-k-init c = (omega arith, all_none _)

@@ -15,7 +15,7 @@ use Rattle.standings.specs.Totals.{no_totals}
 use Rattle.run.specs.Records.{same_totals}
 use Rattle.run.proofs.record.valid_totals.Given as goal
 
-abbrev same : List Totals → List Totals → ℕ → Bool
+abbrev pub same : List Totals → List Totals → ℕ → Bool
 same stored counted k = same_totals (get_or stored k no_totals) (get_or counted k no_totals)
 
 abbrev pub invariant-loop-k : goal.invariant-loop-k
