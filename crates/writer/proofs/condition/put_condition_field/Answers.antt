@@ -1,0 +1,9 @@
+-- The comparisons, then the byte.
+use Rattle.buffer.proofs.Puts.{puts_then}
+use borrow.Author.Rules.{rules}
+use Rattle.writer.proofs.condition.put_condition_field.Goals as goal
+
+pub returns : goal.returns
+returns c =
+    let last = c in
+    puts_then last.put_condition-at.ensures last.put_byte.ensures

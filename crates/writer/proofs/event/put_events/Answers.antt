@@ -1,0 +1,32 @@
+-- Line by line.
+use mathlib.Core.Path.{◌≡◌}
+use Prim.Native.Nat.{◌-◌, ◌≤◌}
+use native.Mathlib.Omega.{arith}
+use borrow.Author.Rules.{rules}
+use lib.ListN.{take}
+use Rattle.line.specs.Texts.{written_text}
+use Rattle.cycle_text.specs.Written.{event_fields, events_text}
+use Rattle.buffer.specs.Puts.{Puts}
+use Rattle.buffer.proofs.Puts.{puts_none, puts_length}
+use Rattle.buffer.proofs.Lines.{puts_more}
+use Rattle.writer.proofs.event.put_events.Goals as goal
+
+pub loop-p-init : goal.loop-p-init
+unfolding events_text written_text
+loop-p-init c = (omega arith, puts_none _ _)
+
+pub loop-p-preserved : goal.loop-p-preserved
+unfolding events_text written_text
+loop-p-preserved c =
+    let last = c in
+    let loop = last.loop-p in
+    (omega arith, puts_more event_fields _ loop.p _ (omega arith) loop.invariant.1 last.put_event-at.ensures)
+
+-- TODO same_length : tie.Need-same-length invariant-loop decreases-loop
+-- TODO same_length c = puts_length c.before.loop.invariant.1
+
+pub returns : goal.returns
+returns c =
+    let loop = c.loop-p in
+    let all : loop.p ≡ c.args.count = omega arith in
+    rw (← all) loop.invariant.1

@@ -1,0 +1,9 @@
+-- The end, then the byte.
+use Rattle.buffer.proofs.Puts.{puts_then}
+use borrow.Author.Rules.{rules}
+use Rattle.writer.proofs.rule.put_end_field.Goals as goal
+
+pub returns : goal.returns
+returns c =
+    let last = c in
+    puts_then last.put_end-at.ensures last.put_byte.ensures

@@ -1,0 +1,32 @@
+-- Line by line.
+use mathlib.Core.Path.{◌≡◌}
+use Prim.Native.Nat.{◌-◌, ◌≤◌}
+use native.Mathlib.Omega.{arith}
+use borrow.Author.Rules.{rules}
+use lib.ListN.{take}
+use Rattle.line.specs.Texts.{written_text}
+use Rattle.rule_text.specs.Written.{rule_fields, rules_text}
+use Rattle.buffer.specs.Puts.{Puts}
+use Rattle.buffer.proofs.Puts.{puts_none, puts_length}
+use Rattle.buffer.proofs.Lines.{puts_more}
+use Rattle.writer.proofs.rule.put_rules.Goals as goal
+
+pub loop-k-init : goal.loop-k-init
+unfolding rules_text written_text
+loop-k-init c = (omega arith, puts_none _ _)
+
+pub loop-k-preserved : goal.loop-k-preserved
+unfolding rules_text written_text
+loop-k-preserved c =
+    let last = c in
+    let loop = last.loop-k in
+    (omega arith, puts_more rule_fields _ loop.k _ (omega arith) loop.invariant.1 last.put_rule-at.ensures)
+
+-- TODO same_length : tie.Need-same-length invariant-loop decreases-loop
+-- TODO same_length c = puts_length c.before.loop.invariant.1
+
+pub returns : goal.returns
+returns c =
+    let loop = c.loop-k in
+    let all : loop.k ≡ c.args.count = omega arith in
+    rw (← all) loop.invariant.1

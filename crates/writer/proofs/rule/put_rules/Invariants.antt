@@ -1,0 +1,17 @@
+use mathlib.Core.Path.{◌≡◌}
+use Prim.Native.Nat.{◌-◌, ◌≤◌}
+use native.Mathlib.Omega.{arith}
+use borrow.Author.Rules.{rules}
+use lib.ListN.{take}
+use Rattle.line.specs.Texts.{written_text}
+use Rattle.rule_text.specs.Written.{rule_fields, rules_text}
+use Rattle.buffer.specs.Puts.{Puts}
+use Rattle.buffer.proofs.Puts.{puts_none, puts_length}
+use Rattle.buffer.proofs.Lines.{puts_more}
+use Rattle.writer.proofs.rule.put_rules.Given as goal
+
+abbrev pub invariant-loop-k : goal.invariant-loop-k
+invariant-loop-k l = (l.k ≤ l.count) × Puts (rules_text (take l.k l.rules)) l.initial.out 0 l.out l.at
+
+abbrev pub decreases-loop-k : goal.decreases-loop-k
+decreases-loop-k l = l.count - l.k
