@@ -1,4 +1,6 @@
 // Cycle texts: the events of a whole text, or the first refusal with its line.
+#![tactic(auto)]
+
 ghost use Rattle.std.specs.Prelude.{◌≡◌, ◌+◌};
 ghost use Rattle.line.specs.Fields.{LF, index_of, fields_from};
 ghost use Rattle.line.specs.Texts.{line_of};

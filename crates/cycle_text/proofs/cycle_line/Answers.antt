@@ -7,7 +7,6 @@ use Rattle.line.proofs.Lines.{end_is, end_within, no_line_end, other_count, fiel
 use Rattle.cycle_text.specs.Cycle.{event_of}
 use Rattle.cycle_text.specs.Reads.{event_read}
 use Rattle.cycle_text.proofs.Lines.{field_count}
-use borrow.Author.Rules.{rules}
 use Rattle.cycle_text.proofs.cycle_line.Goals as goal
 
 pub overflow_add-next : goal.overflow_add-next

@@ -16,7 +16,6 @@ use Rattle.line.proofs.Lines.{field_passed}
 use Rattle.cycle_text.specs.Cycle.{event_of}
 use Rattle.cycle_text.specs.Reads.{event_read, event_with}
 use Rattle.cycle_text.proofs.Lines.{from_activity, by_fields}
-use borrow.Author.Rules.{rules}
 use Rattle.cycle_text.proofs.read_event.Goals as goal
 use Rattle.cycle_text.proofs.read_event.Goals.{After-rest_of}
 

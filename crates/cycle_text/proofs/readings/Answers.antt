@@ -4,16 +4,15 @@ use mathlib.Core.Path.{◌≡◌, sym, ◌∙◌, ap}
 use mathlib.Core.List.{List}
 use Prim.Native.Nat.{ℕ, ◌+◌}
 use lib.ListN.{drop}
-use Rattle.declare.specs.Answers.{Answer, ◌>>=◌}
+use Rattle.declare.specs.Answers.{◌>>=◌}
 use Rattle.line.specs.Fields.{tab, before, index_of, fields_from}
 use Rattle.line.specs.Values.{reading_field, reading_read}
 use Rattle.line.specs.declared.ReadingAnswer.{ReadingAnswer}
 use Rattle.line.specs.declared.ReadingAnswer.TheVariants.{Read}
 use Rattle.line.proofs.Lines.{field_passed}
-use Rattle.cycle_text.specs.Types.{Reading, Event}
+use Rattle.cycle_text.specs.Types.{Reading}
 use Rattle.cycle_text.specs.Reads.{event_read, event_with}
 use Rattle.cycle_text.proofs.Lines.{from_reading2, from_reading3, from_reading4, by_readings}
-use borrow.Author.Rules.{rules}
 use Rattle.cycle_text.proofs.readings.Goals as goal
 
 module _ (time activity : ℕ) where

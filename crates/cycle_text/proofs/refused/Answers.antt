@@ -6,7 +6,6 @@ use Rattle.cycle_text.specs.Types.{Event, Refusal, Refused, CycleRead}
 use Rattle.declare.specs.Limits.{most_events}
 use Rattle.declare.specs.Slots.{padded}
 use Rattle.cycle_text.specs.Reads.{refused_read}
-use borrow.Author.Rules.{rules}
 use Rattle.cycle_text.proofs.refused.Goals as goal
 
 abbrev read_of : Refusal → ℕ → Event → CycleRead

@@ -27,6 +27,9 @@ record InHand (correlation : Bool) (field : List ℕ) (condition : Condition) (a
   more : at ≤ length field
   found : comparison_read read ≡ up_to_comma (comparison_field correlation) (take (length field - at) (drop at field))
 
+in_hand : {correlation : Bool} {field : List ℕ} {condition : Condition} {at : ℕ} {read : ComparisonAnswer} → condition ≡ condition_of (comparisons_of condition) → comparisons_after correlation [] (split comma field) ≡ comparisons_after correlation (comparisons_of condition) (fields_at field at) → at ≤ length field → comparison_read read ≡ up_to_comma (comparison_field correlation) (take (length field - at) (drop at field)) → InHand correlation field condition at read
+in_hand same turn more found = record { same = same; turn = turn; more = more; found = found }
+
 module _ {correlation : Bool} {field : List ℕ} {condition : Condition} {at : ℕ} {read : ComparisonAnswer} (hand : InHand correlation field condition at read) where
   -- the comparisons held, and the part that begins at the next
   abbrev held : List Comparison
@@ -74,14 +77,14 @@ loop-at-init c = rw c.no_condition-condition.ensures (omega arith, refl, ap (com
 pub returns-in-NotCompared : goal.returns-in-NotCompared
 unfolding comparisons_field condition_read comparison_read ◌>>=◌
 returns-in-NotCompared c =
-    let k : InHand c.args.correlation c.args.field.now c.loop-at.condition c.loop-at.at c.comparison.result = record { same = c.loop-at.invariant.1; turn = c.loop-at.invariant.2; more = c.loop-at-test.true; found = c.comparison.ensures } in
+    let k = in_hand c.loop-at.invariant.1 c.loop-at.invariant.2 c.loop-at-test.true c.comparison.ensures in
     let r = comma_refused (comparison_field c.args.correlation) (left k) _ (comparison_is k _ c.in-NotCompared.is) in
     sym (rw (by_comparison k ∙ after_refused c.args.correlation (held k) (before comma (left k)) _ _ r))
 
 pub returns-then-condition-ge-COMPARISONS : goal.returns-then-condition-ge-COMPARISONS
 unfolding comparisons_field condition_read ◌>>=◌ number_of
 returns-then-condition-ge-COMPARISONS c =
-    let k : InHand c.args.correlation c.args.field.now c.loop-at.condition c.loop-at.at c.comparison.result = record { same = c.loop-at.invariant.1; turn = c.loop-at.invariant.2; more = c.loop-at-test.true; found = c.comparison.ensures } in
+    let k = in_hand c.loop-at.invariant.1 c.loop-at.invariant.2 c.loop-at-test.true c.comparison.ensures in
     sym (rw (by_comparison k ∙ after_full c.args.correlation (held k) (before comma (left k)) _ _ (holds k _ _ c.in-Compared.is) (omega (arith, count_is k, c.if-condition-ge-COMPARISONS.true))))
 
 pub with-condition-requires : goal.with-condition-requires
@@ -89,22 +92,22 @@ with-condition-requires c = omega (arith, c.if-condition-ge-COMPARISONS.false)
 
 pub overflow_add-at : goal.overflow_add-at
 overflow_add-at c =
-    let k : InHand c.args.correlation c.args.field.now c.loop-at.condition c.loop-at.at c.comparison.result = record { same = c.loop-at.invariant.1; turn = c.loop-at.invariant.2; more = c.loop-at-test.true; found = c.comparison.ensures } in
+    let k = in_hand c.loop-at.invariant.1 c.loop-at.invariant.2 c.loop-at-test.true c.comparison.ensures in
     omega (arith, within k _ _ c.in-Compared.is, c.well_formed)
 
 pub overflow_add-at-in-Compared : goal.overflow_add-at-in-Compared
 overflow_add-at-in-Compared c =
-    let k : InHand c.args.correlation c.args.field.now c.loop-at.condition c.loop-at.at c.comparison.result = record { same = c.loop-at.invariant.1; turn = c.loop-at.invariant.2; more = c.loop-at-test.true; found = c.comparison.ensures } in
+    let k = in_hand c.loop-at.invariant.1 c.loop-at.invariant.2 c.loop-at-test.true c.comparison.ensures in
     omega (arith, within k _ _ c.in-Compared.is, c.well_formed)
 
 pub loop-at-smaller : goal.loop-at-smaller
 loop-at-smaller c =
-    let k : InHand c.args.correlation c.args.field.now c.loop-at.condition c.loop-at.at c.comparison.result = record { same = c.loop-at.invariant.1; turn = c.loop-at.invariant.2; more = c.loop-at-test.true; found = c.comparison.ensures } in
+    let k = in_hand c.loop-at.invariant.1 c.loop-at.invariant.2 c.loop-at-test.true c.comparison.ensures in
     omega (arith, within k _ _ c.in-Compared.is, c.loop-at-test.true)
 
 pub loop-at-preserved : goal.loop-at-preserved
 loop-at-preserved c =
-    let k : InHand c.args.correlation c.args.field.now c.loop-at.condition c.loop-at.at c.comparison.result = record { same = c.loop-at.invariant.1; turn = c.loop-at.invariant.2; more = c.loop-at-test.true; found = c.comparison.ensures } in
+    let k = in_hand c.loop-at.invariant.1 c.loop-at.invariant.2 c.loop-at-test.true c.comparison.ensures in
     let d = c.in-Compared.next in
     let l : length (held k) < 4 = omega (arith, count_is k, c.if-condition-ge-COMPARISONS.false) in
     let e : comparisons_of c.with-condition.result ≡ held k ++ (d ∷ []) = ap comparisons_of c.with-condition.ensures ∙ held_more k d _ c.in-Compared.is l in (
