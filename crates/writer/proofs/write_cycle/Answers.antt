@@ -10,16 +10,12 @@ use Rattle.buffer.proofs.Writes.{refuses, hands_on}
 use Rattle.writer.proofs.Room.{cycle_room}
 use borrow.Author.Rules.{rules}
 use Rattle.writer.proofs.write_cycle.Goals as goal
-use Rattle.writer.proofs.write_cycle.Goals.{Else-not-valid_run}
-
-past_valid : (c : Else-not-valid_run) → valid_run c.args.run ≡ true
-past_valid c = sym c.valid_run.ensures ∙ c.if-not-valid_run.false
 
 pub returns-then-not-valid_run : goal.returns-then-not-valid_run
 returns-then-not-valid_run c = refuses (sym c.valid_run.ensures ∙ c.if-not-valid_run.true)
 
 pub put_events-length-requires : goal.put_events-length-requires
-put_events-length-requires c = (valid_parts _ (past_valid c.before.before)).events_fit
+put_events-length-requires c = (valid_parts _ (sym c.valid_run.ensures ∙ c.if-not-valid_run.false)).events_fit
 
 pub slice_bounds-text-end : goal.slice_bounds-text-end
 slice_bounds-text-end c = puts_within c.put_events-length.ensures
@@ -30,7 +26,5 @@ slice_bounds-write-end c = sym (length-take-le _ _ (puts_within c.put_events-len
 pub returns : goal.returns
 unfolding events_of
 returns c =
-    let written = c in
-    let put = written in
-    let v = past_valid put.before.before.before.before.before.before.before.before.before in
-    hands_on v (cycle_room _ v) put.put_events-length.ensures written.write.ensures
+    let v = sym c.valid_run.ensures ∙ c.if-not-valid_run.false in
+    hands_on v (cycle_room _ v) c.put_events-length.ensures c.write.ensures

@@ -10,16 +10,12 @@ use Rattle.buffer.proofs.Writes.{refuses, hands_on}
 use Rattle.writer.proofs.Room.{rules_room}
 use borrow.Author.Rules.{rules}
 use Rattle.writer.proofs.write_rules.Goals as goal
-use Rattle.writer.proofs.write_rules.Goals.{Else-not-valid_table}
-
-past_valid : (c : Else-not-valid_table) → valid_table c.args.table ≡ true
-past_valid c = sym c.valid_table.ensures ∙ c.if-not-valid_table.false
 
 pub returns-then-not-valid_table : goal.returns-then-not-valid_table
 returns-then-not-valid_table c = refuses (sym c.valid_table.ensures ∙ c.if-not-valid_table.true)
 
 pub put_rules-length-requires : goal.put_rules-length-requires
-put_rules-length-requires c = rules_within _ (past_valid c.before.before)
+put_rules-length-requires c = rules_within _ (sym c.valid_table.ensures ∙ c.if-not-valid_table.false)
 
 pub slice_bounds-text-end : goal.slice_bounds-text-end
 slice_bounds-text-end c = puts_within c.put_rules-length.ensures
@@ -30,7 +26,5 @@ slice_bounds-write-end c = sym (length-take-le _ _ (puts_within c.put_rules-leng
 pub returns : goal.returns
 unfolding rules_of
 returns c =
-    let written = c in
-    let put = written in
-    let v = past_valid put.before.before.before.before.before.before.before.before.before in
-    hands_on v (rules_room _ v) put.put_rules-length.ensures written.write.ensures
+    let v = sym c.valid_table.ensures ∙ c.if-not-valid_table.false in
+    hands_on v (rules_room _ v) c.put_rules-length.ensures c.write.ensures
