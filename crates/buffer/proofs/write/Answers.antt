@@ -12,8 +12,7 @@ returns-then-out-text c = too_short _ _ c.if-out-text.true
 
 pub returns : goal.returns
 returns c =
-    let k = c in
-    let a = k.args in
+    let a = c.args in
     let room : length a.text.now ≤ length a.out.now = omega arith in
-    let p = puts_front room k.put_bytes-length.ensures in
+    let p = puts_front room c.put_bytes-length.ensures in
     has_room _ _ _ _ room p.1 p.0

@@ -10,14 +10,12 @@ use Rattle.standings.proofs.standing_in.Goals as goal
 
 pub returns-then-first-p : goal.returns-then-first-p
 returns-then-first-p c =
-    let a = c in
-    let size : length a.args.cells ≡ places = search rules in
-    let p : c.less_one-p.result ≡ a.args.position - 1 = c.less_one-p.ensures in
-    sym (past_row a.args.cells a.args.rule _ c.row_start-first.ensures size a.args.position (omega arith))
+    let size : length c.args.cells ≡ places = search rules in
+    let p : c.less_one-p.result ≡ c.args.position - 1 = c.less_one-p.ensures in
+    sym (past_row c.args.cells c.args.rule _ c.row_start-first.ensures size c.args.position (omega arith))
 
 pub returns : goal.returns
 unfolding standing_from
 returns c =
-    let a = c in
-    let p : c.less_one-p.result ≡ a.args.position - 1 = c.less_one-p.ensures in
-    rw p (in_row a.args.cells a.args.rule _ c.row_start-first.ensures a.args.position (omega arith))
+    let p : c.less_one-p.result ≡ c.args.position - 1 = c.less_one-p.ensures in
+    rw p (in_row c.args.cells c.args.rule _ c.row_start-first.ensures c.args.position (omega arith))

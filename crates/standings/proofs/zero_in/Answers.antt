@@ -46,6 +46,5 @@ bounds-cells-k c = let w = within c in search rules
 pub returns : goal.returns
 unfolding zero_in overall_in
 returns c =
-    let e = c in
-    let of-cycle = sym e.is_overall_rule.ensures ∙ not-false _ (neither _ _ e.if-is_overall_rule-k.false).0 in
-    rw (of-cycle, e.less_one-k.ensures)
+    let of-cycle = sym c.is_overall_rule.ensures ∙ not-false _ (neither _ _ c.if-is_overall_rule-k.false).0 in
+    rw (of-cycle, c.less_one-k.ensures)

@@ -27,17 +27,10 @@ not_below (negsuc n) m h e = absurd (true≢false h)
 
 pub returns-then-z-lt0 : goal.returns-then-z-lt0
 returns-then-z-lt0 c =
-    let last = c in
-    let dash = last in
-    let test = dash in
-    let start = test in
-    let same = to_z-of_z {w = w32} {z = start.args.z} start.ranges.z in
-    puts_as (below _ _ test.if-z-lt0.true test.magnitude-digits.ensures ∙ ap integer_text same) (puts_then dash.put_byte-at.ensures last.put_number.ensures)
+    let same = to_z-of_z {w = w32} {z = c.args.z} c.ranges.z in
+    puts_as (below _ _ c.if-z-lt0.true c.magnitude-digits.ensures ∙ ap integer_text same) (puts_then c.put_byte-at.ensures c.put_number.ensures)
 
 pub returns : goal.returns
 returns c =
-    let last = c in
-    let test = last in
-    let start = test in
-    let same = to_z-of_z {w = w32} {z = start.args.z} start.ranges.z in
-    puts_as (not_below _ _ test.if-z-lt0.false test.magnitude-digits.ensures ∙ ap integer_text same) last.put_number-2.ensures
+    let same = to_z-of_z {w = w32} {z = c.args.z} c.ranges.z in
+    puts_as (not_below _ _ c.if-z-lt0.false c.magnitude-digits.ensures ∙ ap integer_text same) c.put_number-2.ensures

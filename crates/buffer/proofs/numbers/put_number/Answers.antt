@@ -70,12 +70,6 @@ loop-left-preserved c =
       rw e (again l.digits l.first l.left _ (omega arith) m l.invariant.3),
     )
 
--- TODO part-put-bytes-end : tie.Need-slice-bounds-put-bytes-end invariant-loop decreases-loop
--- TODO part-put-bytes-end c =
--- TODO     let l = c.before.before.before.loop in
--- TODO     let e : length (set l.digits l.first (48 + l.left)) ≡ 10 = length-set l.digits l.first (48 + l.left) ∙ l.invariant.0 in
--- TODO     omega arith
-
 pub returns : goal.returns
 returns c =
     let l = c.loop-left in

@@ -5,5 +5,4 @@ use Rattle.buffer.proofs.numbers.put_number_field.Goals as goal
 
 pub returns : goal.returns
 returns c =
-    let last = c in
-    puts_then last.put_number-at.ensures last.put_byte.ensures
+    puts_then c.put_number-at.ensures c.put_byte.ensures

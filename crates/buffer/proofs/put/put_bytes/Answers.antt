@@ -54,9 +54,6 @@ loop-i-preserved c =
     let fits : a.at + l.i < length l.out = omega arith in
     (omega arith, more a.bytes.now a.out.now l.out a.at l.i (omega arith) fits l.invariant.1)
 
--- TODO same_length : tie.Need-same-length invariant-loop decreases-loop
--- TODO same_length c = puts_length c.before.loop.invariant.1
-
 pub returns : goal.returns
 returns c =
     let a = c.args in

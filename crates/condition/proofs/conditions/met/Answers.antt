@@ -50,35 +50,29 @@ returns-then-not-comparison_holds c =
 pub returns-then-count-lt2 : goal.returns-then-count-lt2
 unfolding tests_for
 returns-then-count-lt2 c =
-    let s = c in
-    ended (after_first c.before) c.if-count-lt2.true ∙ met_bound s.args.c s.args.a s.args.e
+    ended (after_first c.before) c.if-count-lt2.true ∙ met_bound c.args.c c.args.a c.args.e
 
 pub returns-then-not-comparison_holds-2 : goal.returns-then-not-comparison_holds-2
 unfolding tests_for
 returns-then-not-comparison_holds-2 c =
-    let s = c in
-    lost (after_first c.before.before.before.before) c.if-count-lt2.false (failed c.comparison_holds-2.ensures (ap not c.if-not-comparison_holds-2.true)) ∙ met_bound s.args.c s.args.a s.args.e
+    lost (after_first c.before.before.before.before) c.if-count-lt2.false (failed c.comparison_holds-2.ensures (ap not c.if-not-comparison_holds-2.true)) ∙ met_bound c.args.c c.args.a c.args.e
 
 pub returns-then-count-lt3 : goal.returns-then-count-lt3
 unfolding tests_for
 returns-then-count-lt3 c =
-    let s = c in
-    ended (after_second c.before) c.if-count-lt3.true ∙ met_bound s.args.c s.args.a s.args.e
+    ended (after_second c.before) c.if-count-lt3.true ∙ met_bound c.args.c c.args.a c.args.e
 
 pub returns-then-not-comparison_holds-3 : goal.returns-then-not-comparison_holds-3
 unfolding tests_for
 returns-then-not-comparison_holds-3 c =
-    let s = c in
-    lost (after_second c.before.before.before.before) c.if-count-lt3.false (failed c.comparison_holds-3.ensures (ap not c.if-not-comparison_holds-3.true)) ∙ met_bound s.args.c s.args.a s.args.e
+    lost (after_second c.before.before.before.before) c.if-count-lt3.false (failed c.comparison_holds-3.ensures (ap not c.if-not-comparison_holds-3.true)) ∙ met_bound c.args.c c.args.a c.args.e
 
 pub returns-then-count-lt4 : goal.returns-then-count-lt4
 unfolding tests_for
 returns-then-count-lt4 c =
-    let s = c in
-    ended (after_third c.before) c.if-count-lt4.true ∙ met_bound s.args.c s.args.a s.args.e
+    ended (after_third c.before) c.if-count-lt4.true ∙ met_bound c.args.c c.args.a c.args.e
 
 pub returns : goal.returns
 unfolding tests_for
 returns c =
-    let s = c in
-    c.comparison_holds-4.ensures ∙ last (after_third c.before.before.before) c.if-count-lt4.false ∙ met_bound s.args.c s.args.a s.args.e
+    c.comparison_holds-4.ensures ∙ last (after_third c.before.before.before) c.if-count-lt4.false ∙ met_bound c.args.c c.args.a c.args.e

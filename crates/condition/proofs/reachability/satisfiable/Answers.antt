@@ -21,23 +21,17 @@ returns-then-not-some_meets c = rw (failed c.some_meets.ensures (ap not c.if-not
 pub returns-then-not-some_meets-2 : goal.returns-then-not-some_meets-2
 unfolding satisfiable all
 returns-then-not-some_meets-2 c =
-    let first = c in
-    rw (passed first.some_meets.ensures (ap not first.if-not-some_meets.false), failed c.some_meets-2.ensures (ap not c.if-not-some_meets-2.true))
+    rw (passed c.some_meets.ensures (ap not c.if-not-some_meets.false), failed c.some_meets-2.ensures (ap not c.if-not-some_meets-2.true))
 
 pub returns-then-not-some_meets-3 : goal.returns-then-not-some_meets-3
 unfolding satisfiable all
 returns-then-not-some_meets-3 c =
-    let second = c in
-    let first = second in
     rw
-    (passed first.some_meets.ensures (ap not first.if-not-some_meets.false), passed second.some_meets-2.ensures (ap not second.if-not-some_meets-2.false), failed c.some_meets-3.ensures (ap not c.if-not-some_meets-3.true))
+    (passed c.some_meets.ensures (ap not c.if-not-some_meets.false), passed c.some_meets-2.ensures (ap not c.if-not-some_meets-2.false), failed c.some_meets-3.ensures (ap not c.if-not-some_meets-3.true))
 
 pub returns : goal.returns
 unfolding satisfiable all
 returns c =
-    let third = c in
-    let second = third in
-    let first = second in
     rw
-    (passed first.some_meets.ensures (ap not first.if-not-some_meets.false), passed second.some_meets-2.ensures (ap not second.if-not-some_meets-2.false), passed third.some_meets-3.ensures (ap not third.if-not-some_meets-3.false))
+    (passed c.some_meets.ensures (ap not c.if-not-some_meets.false), passed c.some_meets-2.ensures (ap not c.if-not-some_meets-2.false), passed c.some_meets-3.ensures (ap not c.if-not-some_meets-3.false))
     (c.some_meets-4.ensures ∙ sym (and-true _))

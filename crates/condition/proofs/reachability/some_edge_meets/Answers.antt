@@ -54,30 +54,24 @@ returns-then-edge_meets c =
 
 pub returns-then-count-lt2 : goal.returns-then-count-lt2
 returns-then-count-lt2 c =
-    let s = c in
-    some_edge s.args.tests s.args.k (ended (after_first c.before) c.if-count-lt2.true)
+    some_edge c.args.tests c.args.k (ended (after_first c.before) c.if-count-lt2.true)
 
 pub returns-then-edge_meets-2 : goal.returns-then-edge_meets-2
 returns-then-edge_meets-2 c =
-    let s = c in
-    some_edge s.args.tests s.args.k (lost (after_first c.before.before.before.before) c.if-count-lt2.false (as_failed c.edge_meets-2.ensures c.if-edge_meets-2.true))
+    some_edge c.args.tests c.args.k (lost (after_first c.before.before.before.before) c.if-count-lt2.false (as_failed c.edge_meets-2.ensures c.if-edge_meets-2.true))
 
 pub returns-then-count-lt3 : goal.returns-then-count-lt3
 returns-then-count-lt3 c =
-    let s = c in
-    some_edge s.args.tests s.args.k (ended (after_second c.before) c.if-count-lt3.true)
+    some_edge c.args.tests c.args.k (ended (after_second c.before) c.if-count-lt3.true)
 
 pub returns-then-edge_meets-3 : goal.returns-then-edge_meets-3
 returns-then-edge_meets-3 c =
-    let s = c in
-    some_edge s.args.tests s.args.k (lost (after_second c.before.before.before.before) c.if-count-lt3.false (as_failed c.edge_meets-3.ensures c.if-edge_meets-3.true))
+    some_edge c.args.tests c.args.k (lost (after_second c.before.before.before.before) c.if-count-lt3.false (as_failed c.edge_meets-3.ensures c.if-edge_meets-3.true))
 
 pub returns-then-count-lt4 : goal.returns-then-count-lt4
 returns-then-count-lt4 c =
-    let s = c in
-    some_edge s.args.tests s.args.k (ended (after_third c.before) c.if-count-lt4.true)
+    some_edge c.args.tests c.args.k (ended (after_third c.before) c.if-count-lt4.true)
 
 pub returns : goal.returns
 returns c =
-    let s = c in
-    c.edge_meets-4.ensures ∙ sym (not-not _) ∙ some_edge s.args.tests s.args.k (last (after_third c.before.before.before) c.if-count-lt4.false)
+    c.edge_meets-4.ensures ∙ sym (not-not _) ∙ some_edge c.args.tests c.args.k (last (after_third c.before.before.before) c.if-count-lt4.false)

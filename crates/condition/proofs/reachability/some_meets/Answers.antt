@@ -13,13 +13,10 @@ returns-then-meets c = rw (sym c.meets.ensures ∙ c.if-meets.true)
 pub returns-then-meets-2 : goal.returns-then-meets-2
 unfolding some_meets candidates any least
 returns-then-meets-2 c =
-    let blank = c in
-    rw (sym blank.meets.ensures ∙ blank.if-meets.false, sym c.meets-2.ensures ∙ c.if-meets-2.true)
+    rw (sym c.meets.ensures ∙ c.if-meets.false, sym c.meets-2.ensures ∙ c.if-meets-2.true)
 
 pub returns : goal.returns
 unfolding some_meets candidates any least
 returns c =
-    let number = c in
-    let blank = number in
-    rw (sym blank.meets.ensures ∙ blank.if-meets.false, sym number.meets-2.ensures ∙ number.if-meets-2.false)
+    rw (sym c.meets.ensures ∙ c.if-meets.false, sym c.meets-2.ensures ∙ c.if-meets-2.false)
     c.some_edge_meets.ensures

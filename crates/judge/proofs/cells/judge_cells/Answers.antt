@@ -48,10 +48,9 @@ loop-j-init c =
 -- the rest of a row
 pub loop-j-preserved-then-width-p : goal.loop-j-preserved-then-width-p
 loop-j-preserved-then-width-p c =
-    let at = c in
-    let l = at.loop-j in
-    let rows = at.min-rows in
-    let width = at.min-width in
+    let l = c.loop-j in
+    let rows = c.min-rows in
+    let width = c.min-width in
     let few : width.result ≤ most_events = omega (arith, width.ensures) in (
       omega arith,
       swept_skip l.invariant.1 _ (omega arith) (λ i b d x. cell_unused _ _ _ i x (row_rest rows.result width.result l.j i (omega arith) b d)),
@@ -59,21 +58,19 @@ loop-j-preserved-then-width-p c =
     )
 
 -- a place in use
-placed : (c : Else-width-p) → let s = c in
-    let a = s.args in
-    let columns = s.columns_of-columns.result in
-    Placed columns.times columns.activities columns.numbers s.flags_of-flags.result a.table s.min-rows.result a.events a.n s.min-width.result c.loop-j.j
+placed : (c : Else-width-p) → let c = c in
+    let a = c.args in
+    let columns = c.columns_of-columns.result in
+    Placed columns.times columns.activities columns.numbers c.flags_of-flags.result a.table c.min-rows.result a.events a.n c.min-width.result c.loop-j.j
 placed c =
-    let s = c in
-    let start = s in
-    let width = s.min-width in
-    let rows = s.min-rows in
+    let width = c.min-width in
+    let rows = c.min-rows in
     record {
       few = omega (arith, rows.ensures);
       long = search rules;
       high = width.ensures;
-      shows = s.columns_of-columns.ensures;
-      flagging = s.flags_of-flags.ensures;
+      shows = c.columns_of-columns.ensures;
+      flagging = c.flags_of-flags.ensures;
       used = c.loop-j-test.true;
       low = omega (arith, c.if-width-p.false);
     }
@@ -113,11 +110,10 @@ loop-j-preserved c =
 pub returns : goal.returns
 unfolding judged_cells changed
 returns c =
-    let at = c in
-    let l = at.loop-j in
-    let width = at.min-width in
-    let rows = at.min-rows in
-    let start = at.before.before.before.before.before.before.before in
+    let l = c.loop-j in
+    let width = c.min-width in
+    let rows = c.min-rows in
+    let start = c.before.before.before.before.before.before.before in
     let a = start.args in
     let full : length c.args.cells ≡ places = search rules in
     let few : rows.result ≤ most_rules = omega (arith, rows.ensures) in

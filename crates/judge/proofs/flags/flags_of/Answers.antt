@@ -26,12 +26,11 @@ pub loop-j-preserved-then-begins_overall : goal.loop-j-preserved-then-begins_ove
 unfolding no_rule no_condition no_comparison no_event
 loop-j-preserved-then-begins_overall c =
     let l = c.loop-j in
-    let s = c in
-    let rules = s.args.table.rules in
+    let rules = c.args.table.rules in
     let o : is_overall (get_or rules (l.j / most_events) no_rule).code ≡ true = and_right (eqb (l.j % most_events) 0) _ (sym c.begins_overall.ensures ∙ c.if-begins_overall.true) in (
       omega arith,
       swept_past l.invariant.1 false (most_events - l.j % most_events) (omega arith)
-          (λ i b d. rw (get_or-replicate places i false false (omega arith)) (row_unflagged _ _ _ _ s.requires.2 l.j i o b d)),
+          (λ i b d. rw (get_or-replicate places i false false (omega arith)) (row_unflagged _ _ _ _ c.requires.2 l.j i o b d)),
       row_begins rules l.j,
     )
 
@@ -42,28 +41,26 @@ pub loop-j-preserved-then-q-n : goal.loop-j-preserved-then-q-n
 unfolding no_rule no_condition no_comparison no_event
 loop-j-preserved-then-q-n c =
     let l = c.loop-j in
-    let s = c in
-    let a = s.args in
+    let a = c.args in
     let rules = a.table.rules in
     let o : is_overall (get_or rules (l.j / most_events) no_rule).code ≡ false = row_asked rules l.j l.invariant.2 (sym c.begins_overall.ensures ∙ c.if-begins_overall.false) in
     let next = c.next_place-q in
     let low : next.result < a.n = c.if-q-n.true in
     let past : l.j % most_events ≤ next.result = (next.ensures.found low).0 in
-    let high : a.n ≤ most_events = s.requires.1 in
+    let high : a.n ≤ most_events = c.requires.1 in
     let passed = swept_past l.invariant.1 false (next.result - l.j % most_events) (omega arith)
-    (λ i b d. rw (get_or-replicate places i false false (omega arith)) (passed_over _ _ _ _ s.requires.2 l.j next.result i next.ensures b (omega arith) (λ h. omega arith))) in
-    (omega arith, swept_again passed false (omega arith) (flagged_next _ _ _ _ s.requires.2 l.j next.result _ o next.ensures low high (omega arith) c.met.ensures), row_next rules l.j (l.j + (next.result - l.j % most_events) + 1) o (omega arith) (omega arith))
+    (λ i b d. rw (get_or-replicate places i false false (omega arith)) (passed_over _ _ _ _ c.requires.2 l.j next.result i next.ensures b (omega arith) (λ h. omega arith))) in
+    (omega arith, swept_again passed false (omega arith) (flagged_next _ _ _ _ c.requires.2 l.j next.result _ o next.ensures low high (omega arith) c.met.ensures), row_next rules l.j (l.j + (next.result - l.j % most_events) + 1) o (omega arith) (omega arith))
 
 pub loop-j-preserved : goal.loop-j-preserved
 unfolding no_rule no_condition no_comparison no_event
 loop-j-preserved c =
     let l = c.loop-j in
-    let s = c in
     let next = c.next_place-q in (
       omega arith,
       swept_past l.invariant.1 false (most_events - l.j % most_events) (omega arith)
-          (λ i b d. rw (get_or-replicate places i false false (omega arith)) (passed_over _ _ _ _ s.requires.2 l.j next.result i next.ensures b d (λ h. omega arith))),
-      row_begins s.args.table.rules l.j,
+          (λ i b d. rw (get_or-replicate places i false false (omega arith)) (passed_over _ _ _ _ c.requires.2 l.j next.result i next.ensures b d (λ h. omega arith))),
+      row_begins c.args.table.rules l.j,
     )
 
 pub returns : goal.returns

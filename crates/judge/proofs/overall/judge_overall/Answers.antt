@@ -27,8 +27,7 @@ loop-k-init c = (omega arith, swept_none _ _)
 pub judge_cycle-next-requires : goal.judge_cycle-next-requires
 unfolding no_rule no_condition no_comparison
 judge_cycle-next-requires c =
-    let b = c in
-    (omega (arith, b.min-width.ensures), sym c.is_overall.ensures ∙ and_left _ _ c.if-is_overall-is_decided.true)
+    (omega (arith, c.min-width.ensures), sym c.is_overall.ensures ∙ and_left _ _ c.if-is_overall-is_decided.true)
 
 pub loop-k-preserved : goal.loop-k-preserved
 unfolding no_rule no_condition no_comparison

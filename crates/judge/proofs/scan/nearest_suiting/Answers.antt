@@ -13,7 +13,6 @@ returns-then-j-gt0 c =
 
 pub returns : goal.returns
 returns c =
-    let start = c in
     let last = c.last_suiting-j.ensures.0 in
     let first = c.first_suiting.ensures in
-    (first.0 ∙ sym (past_start _ _ _ _ start.requires.0) ∙ sym (nearest_past _ _ _ _ (rw c.min-end.ensures at last) (omega (arith, c.if-j-gt0.false))), first.1)
+    (first.0 ∙ sym (past_start _ _ _ _ c.requires.0) ∙ sym (nearest_past _ _ _ _ (rw c.min-end.ensures at last) (omega (arith, c.if-j-gt0.false))), first.1)

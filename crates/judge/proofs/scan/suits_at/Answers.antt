@@ -22,7 +22,6 @@ returns-then-not-within c = let same = c in
 pub returns : goal.returns
 unfolding suits_bound event_in
 returns c = let inside = c in
-    let same = inside in
-    let a = same.args in
-    rw (eq-eqb _ _ same.if-activities-q.false, ← inside.between.ensures, passed inside.within.ensures (ap not inside.if-not-within.false))
+    let a = inside.args in
+    rw (eq-eqb _ _ inside.if-activities-q.false, ← inside.between.ensures, passed inside.within.ensures (ap not inside.if-not-within.false))
     (c.all_pass_at.ensures ∙ all_pass_in a.times.now a.activities.now a.numbers.now a.q (test_list a.bound.tests))

@@ -12,5 +12,4 @@ returns-then-not-is_overall c = rw (sym c.is_overall.ensures ∙ c.if-not-is_ove
 pub returns : goal.returns
 unfolding fits_template
 returns c =
-    let e = c in
-    rw (sym e.is_overall.ensures ∙ e.if-not-is_overall.false, c.counts_target-both_count.ensures, c.overall_of.ensures)
+    rw (sym c.is_overall.ensures ∙ c.if-not-is_overall.false, c.counts_target-both_count.ensures, c.overall_of.ensures)

@@ -13,11 +13,9 @@ returns-then-not-is_above c = sym (stopped 6 _ (sym c.is_above.ensures ∙ c.if-
 pub returns-then-not-fits_template : goal.returns-then-not-fits_template
 unfolding rule_read number_of checked_rule
 returns-then-not-fits_template c =
-    let e = c in
-    sym (passed 6 _ (sym e.is_above.ensures ∙ e.if-not-is_above.false) ∙ stopped 16 _ (sym c.fits_template.ensures ∙ c.if-not-fits_template.true))
+    sym (passed 6 _ (sym c.is_above.ensures ∙ c.if-not-is_above.false) ∙ stopped 16 _ (sym c.fits_template.ensures ∙ c.if-not-fits_template.true))
 
 pub returns : goal.returns
 unfolding rule_read checked_rule
 returns c =
-    let e = c in
-    sym (passed 6 _ (sym e.is_above.ensures ∙ e.if-not-is_above.false) ∙ passed 16 _ (sym c.fits_template.ensures ∙ c.if-not-fits_template.false))
+    sym (passed 6 _ (sym c.is_above.ensures ∙ c.if-not-is_above.false) ∙ passed 16 _ (sym c.fits_template.ensures ∙ c.if-not-fits_template.false))

@@ -19,11 +19,10 @@ returns c =
     let cells = c.judge_cells-next in
     let begun = c.zero_totals-begun in
     let overall = c.judge_overall-zero in
-    let start = c in
-    let a = start.args in
+    let a = c.args in
     let r : Run = with_clock (with_events a.self a.count a.events) a.clock in
     let next : Run = with_standings r cells.result.cells overall.result in
     ap (λ (run : Run). record { outcome = Done; run = run })
     (ap (with_totals next) (counted_by_lem next begun.ensures cells.ensures.1)
-    ∙ ap₂ (λ (x y : List Cell). counted (with_standings r x y)) (cells.ensures.0 ∙ ap (λ (h : ℕ). judged_cells true r.table r.events r.count h r.cells) start.requires)
-    (overall.ensures ∙ ap (λ (h : ℕ). judged_overall true r.table r.events r.count h r.overall) start.requires))
+    ∙ ap₂ (λ (x y : List Cell). counted (with_standings r x y)) (cells.ensures.0 ∙ ap (λ (h : ℕ). judged_cells true r.table r.events r.count h r.cells) c.requires)
+    (overall.ensures ∙ ap (λ (h : ℕ). judged_overall true r.table r.events r.count h r.overall) c.requires))

@@ -44,9 +44,8 @@ returns c =
     let cells = c.closed_cells-next in
     let begun = c.zero_totals-begun in
     let overall = c.judge_overall-zero in
-    let running = c in
-    let run = running.args.self in
-    let valid = past_valid running.before.before.before.before.before.before.before.before.before.before.before in
+    let run = c.args.self in
+    let valid = past_valid c.before.before.before.before.before.before.before.before.before.before.before in
     let few = (valid_parts run valid).events_fit in
     let past = past_idle run valid in
     let whole : run.count ≡ min run.count most_events = omega arith in
@@ -55,4 +54,4 @@ returns c =
     (ap (λ (r : Run). record { outcome = Done; run = r })
     (ap (with_totals next) (counted_by_lem next begun.ensures (cells.ensures.totals run.count few past ∙ ap (λ (n : ℕ). row_totals run.table.count n cells.result.cells begun.result) whole))
     ∙ ap₂ (λ (x y : List Cell). counted (as_closed (with_standings run x y))) (cells.ensures.cells (events_of run) run.count few past) (overall.ensures ∙ closes_overall run valid)))
-    (passed 11 _ valid ∙ passed 9 _ (ap not running.if-self.false))
+    (passed 11 _ valid ∙ passed 9 _ (ap not c.if-self.false))

@@ -38,9 +38,8 @@ horizon-requires c = (valid_parts _ (past_valid c.before.before.before)).events_
 pub returns-then-clock-horizon : goal.returns-then-clock-horizon
 unfolding number_of events_of
 returns-then-clock-horizon c =
-    let in_range_lem = c in
     refuses c.refused-then-clock-horizon.ensures
-    (notice_falls _ _ (past_valid in_range_lem.before.before.before.before.before.before) in_range_lem.if-self.false (le-leb _ latest in_range_lem.if-time.false)
+    (notice_falls _ _ (past_valid c.before.before.before.before.before.before) c.if-self.false (le-leb _ latest c.if-time.false)
     (lt-leb _ _ (rw c.horizon.ensures at c.if-clock-horizon.true)))
 
 -- not below the horizon
@@ -56,7 +55,6 @@ pub returns : goal.returns
 unfolding entered
 returns c =
     let follows = c.before in
-    let in_range_lem = follows in
-    let r : Run = in_range_lem.args.self in
+    let r : Run = follows.args.self in
     accepts r c.accepted.ensures
-    (notice_accepted r _ (past_valid in_range_lem.before.before.before.before.before) in_range_lem.if-self.false (le-leb _ latest in_range_lem.if-time.false) (le-leb _ _ (past_time follows)))
+    (notice_accepted r _ (past_valid follows.before.before.before.before.before) follows.if-self.false (le-leb _ latest follows.if-time.false) (le-leb _ _ (past_time follows)))

@@ -40,9 +40,8 @@ returns-then-self c = refuses c.refused-then-self.ensures (call_closed _ _ (past
 pub returns-then-not-well_formed : goal.returns-then-not-well_formed
 unfolding number_of
 returns-then-not-well_formed c =
-    let running = c in
     refuses c.refused-then-not-well_formed.ensures
-    (take_out_of_range _ _ (past_valid running.before.before.before.before) running.if-self.false (sym c.well_formed-2.ensures ∙ c.if-not-well_formed.true))
+    (take_out_of_range _ _ (past_valid c.before.before.before.before) c.if-self.false (sym c.well_formed-2.ensures ∙ c.if-not-well_formed.true))
 
 pub horizon-requires : goal.horizon-requires
 horizon-requires c = (valid_parts _ (past_valid c.before.before.before.before)).events_fit
@@ -51,9 +50,8 @@ pub returns-then-event-horizon : goal.returns-then-event-horizon
 unfolding number_of events_of
 returns-then-event-horizon c =
     let formed = c.before.before.before.before.before in
-    let running = formed in
     refuses c.refused-then-event-horizon.ensures
-    (take_falls _ _ (past_valid running.before.before.before) running.if-self.false (past_range formed)
+    (take_falls _ _ (past_valid formed.before.before.before) formed.if-self.false (past_range formed)
     (lt-leb _ _ (rw c.horizon.ensures at c.if-event-horizon.true)))
 
 pub returns-then-n-ge-EVENTS : goal.returns-then-n-ge-EVENTS
@@ -61,15 +59,13 @@ unfolding number_of
 returns-then-n-ge-EVENTS c =
     let follows = c.before.before in
     let formed = follows.before.before.before.before in
-    let running = formed in
     refuses c.refused-then-n-ge-EVENTS.ensures
-    (take_full _ _ (past_valid running.before.before.before) running.if-self.false (past_range formed) (le-leb _ _ (past_time follows)) (le-ltb _ most_events c.if-n-ge-EVENTS.true))
+    (take_full _ _ (past_valid formed.before.before.before) formed.if-self.false (past_range formed) (le-leb _ _ (past_time follows)) (le-ltb _ most_events c.if-n-ge-EVENTS.true))
 
 pub accepted-requires : goal.accepted-requires
 unfolding entered
 accepted-requires c =
     let follows = c.before in
-    let start = follows in
     let slots : length c.args.self.events ≡ 256 = search rules in
     sym (horizon_taken _ _ (omega (arith, c.if-n-ge-EVENTS.false)) (past_time follows))
 
@@ -78,7 +74,6 @@ unfolding entered
 returns c =
     let follows = c.before.before in
     let formed = follows.before.before.before.before in
-    let running = formed in
-    let r : Run = running.args.self in
+    let r : Run = formed.args.self in
     accepts r c.accepted.ensures
-    (take_accepted r _ (past_valid running.before.before.before) running.if-self.false (past_range formed) (le-leb _ _ (past_time follows)) (lt-ltb _ most_events c.if-n-ge-EVENTS.false))
+    (take_accepted r _ (past_valid formed.before.before.before) formed.if-self.false (past_range formed) (le-leb _ _ (past_time follows)) (lt-ltb _ most_events c.if-n-ge-EVENTS.false))

@@ -70,11 +70,10 @@ used t l a begun now j n es s past low active = go (ltb (j % most_events) n) ref
 pub loop-j-preserved : goal.loop-j-preserved
 unfolding no_rule no_condition no_comparison
 loop-j-preserved c =
-    let here = c in
-    let l = here.loop-j in
-    let start = here.before.before.before.before.before.before.before.before.before in
+    let l = c.loop-j in
+    let start = c.before.before.before.before.before.before.before.before.before in
     let a = start.args in
-    let active = sym here.is_idle.ensures ∙ here.if-is_idle.false in
+    let active = sym c.is_idle.ensures ∙ c.if-is_idle.false in
     let low : l.j < places = omega (arith, start.requires) in
     let size = full start in (
       omega arith,

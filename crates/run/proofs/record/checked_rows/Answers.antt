@@ -46,13 +46,12 @@ loop-j-init c =
 pub loop-j-preserved-then-is_idle : goal.loop-j-preserved-then-is_idle
 loop-j-preserved-then-is_idle c =
     let l = c.loop-j in
-    let start = c in
-    let s : Standing = (get_or start.args.cells l.j idle_cell).standing in
+    let s : Standing = (get_or c.args.cells l.j idle_cell).standing in
     let idle : is_idle s ≡ true = sym c.is_idle.ensures ∙ c.if-is_idle.true in
-    let low : l.j < places = omega (arith, start.requires.0) in (
+    let low : l.j < places = omega (arith, c.requires.0) in (
       omega arith,
-      all_again _ _ l.invariant.1 (sym (idle_anywhere start.args.closed start.args.count (get_or c.events_judged-counts.result (l.j / 256) 0) (l.j % 256 + 1) s idle)),
-      counting_idle l.invariant.2 start.requires.1 low (only_idle s idle),
+      all_again _ _ l.invariant.1 (sym (idle_anywhere c.args.closed c.args.count (get_or c.events_judged-counts.result (l.j / 256) 0) (l.j % 256 + 1) s idle)),
+      counting_idle l.invariant.2 c.requires.1 low (only_idle s idle),
     )
 
 pub returns-then-not-valid_at : goal.returns-then-not-valid_at
@@ -68,21 +67,19 @@ returns-then-not-valid_at c =
 -- any other is counted, and judged
 pub loop-j-preserved : goal.loop-j-preserved
 loop-j-preserved c =
-    let here = c in
-    let l = here.loop-j in
-    let judged = here.events_judged-counts in
-    let start = here in
-    let a = start.args in
+    let l = c.loop-j in
+    let judged = c.events_judged-counts in
+    let a = c.args in
     let s : Standing = (get_or a.cells l.j idle_cell).standing in
-    let holds : valid a.closed a.count a.cells judged.result l.j ≡ true = sym here.valid_at.ensures ∙ c.if-not-valid_at.false in
-    let active : is_idle s ≡ false = sym here.is_idle.ensures ∙ here.if-is_idle.false in
-    let low : l.j < places = omega (arith, start.requires.0) in
+    let holds : valid a.closed a.count a.cells judged.result l.j ≡ true = sym c.valid_at.ensures ∙ c.if-not-valid_at.false in
+    let active : is_idle s ≡ false = sym c.is_idle.ensures ∙ c.if-is_idle.false in
+    let low : l.j < places = omega (arith, c.requires.0) in
     let own : get_or judged.result (l.j / 256) 0 ≡ events_judged (rule_at a.table (l.j / 256 + 1)) a.count = judged.ensures (l.j / 256) (omega arith) in
     let within : l.j % 256 + 1 ≤ get_or judged.result (l.j / 256) 0 = stands_judged a.closed a.count (get_or judged.result (l.j / 256) 0) (l.j % 256 + 1) s holds active in
     let most = judged_most (rule_at a.table (l.j / 256 + 1)) a.count in (
       omega arith,
       all_again _ _ l.invariant.1 (sym holds),
-      counting_more l.invariant.2 start.requires.1 low (omega (arith, within, own, most)) c.with_standing.ensures,
+      counting_more l.invariant.2 c.requires.1 low (omega (arith, within, own, most)) c.with_standing.ensures,
     )
 
 pub returns : goal.returns

@@ -61,11 +61,10 @@ valid_totals-requires c = rules_within _ (past_table c.before.before.before.befo
 pub returns : goal.returns
 unfolding valid_run
 returns c =
-    let g = c in
-    let f = g.before.before.before.before.before in
+    let f = c.before.before.before.before.before in
     let e = f.before.before.before.before.before.before in
     let rows = f.checked_rows-rows in
     let begun = f.zero_totals-begun.ensures ∙ ap (zero_totals _ _) f.idle_totals.ensures in
     let rules = rules_within _ (past_table e.before.before) in
-    rw (past_table e.before.before, past_events e, past_rows f, sym g.valid_overall.ensures ∙ g.if-not-valid_overall.false)
+    rw (past_table e.before.before, past_events e, past_rows f, sym c.valid_overall.ensures ∙ c.if-not-valid_overall.false)
     (c.valid_totals.ensures ∙ totals_checked (run_of e) rules (events_within _ _ (past_events e)) begun (rows.ensures.1 (not-false _ f.if-not-rows.false)))

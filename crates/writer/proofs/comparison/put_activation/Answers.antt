@@ -12,11 +12,6 @@ use Rattle.writer.proofs.comparison.put_activation.Goals as goal
 pub returns : goal.returns
 unfolding reference_text
 returns c =
-    let last = c in
-    let colon = last in
-    let digit = colon in
-    let sign = digit in
-    let start = sign in
-    let same = to_z-of_z {w = w32} {z = start.args.k} start.ranges.k in
-    puts_as (ap (λ (k : ℤ). reference_text (Activation start.args.g k)) same)
-    (puts_then sign.put_byte-at.ensures (puts_then digit.put_number-at.ensures (puts_then colon.put_byte-at-2.ensures last.put_integer.ensures)))
+    let same = to_z-of_z {w = w32} {z = c.args.k} c.ranges.k in
+    puts_as (ap (λ (k : ℤ). reference_text (Activation c.args.g k)) same)
+    (puts_then c.put_byte-at.ensures (puts_then c.put_number-at.ensures (puts_then c.put_byte-at-2.ensures c.put_integer.ensures)))

@@ -11,9 +11,6 @@ use Rattle.writer.proofs.comparison.put_comparison.Goals as goal
 pub returns : goal.returns
 unfolding comparison_text
 returns c =
-    let last = c in
-    let byte = last in
-    let number = byte in
-    let x = number.args.c in
-    puts_as (ap (λ (b : ℕ). digits_of x.reading ++ (b ∷ reference_text x.reference)) byte.operator_byte.ensures)
-    (puts_then number.put_number-at.ensures (puts_then byte.put_byte-at.ensures last.put_reference.ensures))
+    let x = c.args.c in
+    puts_as (ap (λ (b : ℕ). digits_of x.reading ++ (b ∷ reference_text x.reference)) c.operator_byte.ensures)
+    (puts_then c.put_number-at.ensures (puts_then c.put_byte-at.ensures c.put_reference.ensures))

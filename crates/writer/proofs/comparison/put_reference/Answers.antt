@@ -12,17 +12,13 @@ use Rattle.writer.proofs.comparison.put_reference.Goals as goal
 pub returns-in-Constant : goal.returns-in-Constant
 unfolding reference_text
 returns-in-Constant c =
-    let last = c in
-    let told = last in
-    let k = told.in-Constant.k in
-    let same = to_z-of_z {w = w32} {z = k} (sfits_of told.in-Constant.known_told-1-own.given.0.1) in
-    rw told.in-Constant.is (puts_as (ap (λ (z : ℤ). reference_text (Constant z)) same) last.put_integer.ensures)
+    let k = c.in-Constant.k in
+    let same = to_z-of_z {w = w32} {z = k} (sfits_of c.in-Constant.known_told-1-own.given.0.1) in
+    rw c.in-Constant.is (puts_as (ap (λ (z : ℤ). reference_text (Constant z)) same) c.put_integer.ensures)
 
 pub returns-in-Activation : goal.returns-in-Activation
 returns-in-Activation c =
-    let last = c in
-    let told = last in
-    let g = told.in-Activation.g in
-    let k = told.in-Activation.k in
-    let same = to_z-of_z {w = w32} {z = k} (sfits_of told.in-Activation.known_told-in-Activation-1-own.given.1.0.1) in
-    rw told.in-Activation.is (puts_as (ap (λ (z : ℤ). reference_text (Activation g z)) same) last.put_activation.ensures)
+    let g = c.in-Activation.g in
+    let k = c.in-Activation.k in
+    let same = to_z-of_z {w = w32} {z = k} (sfits_of c.in-Activation.known_told-in-Activation-1-own.given.1.0.1) in
+    rw c.in-Activation.is (puts_as (ap (λ (z : ℤ). reference_text (Activation g z)) same) c.put_activation.ensures)

@@ -46,33 +46,22 @@ module _ (c : Condition) where
 
 pub returns-then-count-lt1 : goal.returns-then-count-lt1
 returns-then-count-lt1 c =
-    let last = c in
-    puts_as (none _ last.if-count-lt1.true) last.put_byte.ensures
+    puts_as (none _ c.if-count-lt1.true) c.put_byte.ensures
 
 pub returns-then-count-lt2 : goal.returns-then-count-lt2
 returns-then-count-lt2 c =
-    let first = c in
-    puts_as (one _ first.if-count-lt1.false c.if-count-lt2.true) first.put_comparison-at.ensures
+    puts_as (one _ c.if-count-lt1.false c.if-count-lt2.true) c.put_comparison-at.ensures
 
 pub returns-then-count-lt3 : goal.returns-then-count-lt3
 returns-then-count-lt3 c =
-    let second = c in
-    let first = second in
-    puts_as (two _ second.if-count-lt2.false c.if-count-lt3.true) (puts_then first.put_comparison-at.ensures second.put_next-at.ensures)
+    puts_as (two _ c.if-count-lt2.false c.if-count-lt3.true) (puts_then c.put_comparison-at.ensures c.put_next-at.ensures)
 
 pub returns-then-count-lt4 : goal.returns-then-count-lt4
 returns-then-count-lt4 c =
-    let third = c in
-    let second = third in
-    let first = second in
-    puts_as (three _ third.if-count-lt3.false c.if-count-lt4.true)
-    (puts_then first.put_comparison-at.ensures (puts_then second.put_next-at.ensures third.put_next-at-2.ensures))
+    puts_as (three _ c.if-count-lt3.false c.if-count-lt4.true)
+    (puts_then c.put_comparison-at.ensures (puts_then c.put_next-at.ensures c.put_next-at-2.ensures))
 
 pub returns : goal.returns
 returns c =
-    let fourth = c in
-    let third = fourth in
-    let second = third in
-    let first = second in
-    puts_as (four _ fourth.if-count-lt4.false)
-    (puts_then first.put_comparison-at.ensures (puts_then second.put_next-at.ensures (puts_then third.put_next-at-2.ensures fourth.put_next.ensures)))
+    puts_as (four _ c.if-count-lt4.false)
+    (puts_then c.put_comparison-at.ensures (puts_then c.put_next-at.ensures (puts_then c.put_next-at-2.ensures c.put_next.ensures)))

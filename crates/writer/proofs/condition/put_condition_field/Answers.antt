@@ -5,5 +5,4 @@ use Rattle.writer.proofs.condition.put_condition_field.Goals as goal
 
 pub returns : goal.returns
 returns c =
-    let last = c in
-    puts_then last.put_condition-at.ensures last.put_byte.ensures
+    puts_then c.put_condition-at.ensures c.put_byte.ensures

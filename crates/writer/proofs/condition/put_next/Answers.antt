@@ -5,5 +5,4 @@ use Rattle.writer.proofs.condition.put_next.Goals as goal
 
 pub returns : goal.returns
 returns c =
-    let last = c in
-    puts_then last.put_byte-at.ensures last.put_comparison.ensures
+    puts_then c.put_byte-at.ensures c.put_comparison.ensures

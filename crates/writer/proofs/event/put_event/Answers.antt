@@ -8,14 +8,8 @@ use Rattle.writer.proofs.event.put_event.Goals as goal
 pub returns : goal.returns
 unfolding event_fields
 returns c =
-    let fourth = c in
-    let third = fourth in
-    let second = third in
-    let first = second in
-    let activity = first in
-    let time = activity in
-    puts_line event_fields time.args.e
-    (puts_then time.put_number_field-at.ensures
-    (puts_then activity.put_byte_field-at.ensures
-    (puts_then first.put_reading_field-at.ensures
-    (puts_then second.put_reading_field-at-2.ensures (puts_then third.put_reading_field-at-3.ensures fourth.put_reading_field.ensures)))))
+    puts_line event_fields c.args.e
+    (puts_then c.put_number_field-at.ensures
+    (puts_then c.put_byte_field-at.ensures
+    (puts_then c.put_reading_field-at.ensures
+    (puts_then c.put_reading_field-at-2.ensures (puts_then c.put_reading_field-at-3.ensures c.put_reading_field.ensures)))))

@@ -18,12 +18,8 @@ loop-p-init c = (omega arith, puts_none _ _)
 pub loop-p-preserved : goal.loop-p-preserved
 unfolding events_text written_text
 loop-p-preserved c =
-    let last = c in
-    let loop = last.loop-p in
-    (omega arith, puts_more event_fields _ loop.p _ (omega arith) loop.invariant.1 last.put_event-at.ensures)
-
--- TODO same_length : tie.Need-same-length invariant-loop decreases-loop
--- TODO same_length c = puts_length c.before.loop.invariant.1
+    let loop = c.loop-p in
+    (omega arith, puts_more event_fields _ loop.p _ (omega arith) loop.invariant.1 c.put_event-at.ensures)
 
 pub returns : goal.returns
 returns c =

@@ -11,13 +11,10 @@ use Rattle.writer.proofs.field.put_reading.Goals as goal
 pub returns-in-Blank : goal.returns-in-Blank
 unfolding reading_text
 returns-in-Blank c =
-    let last = c in
-    rw last.in-Blank.is last.put_byte.ensures
+    rw c.in-Blank.is c.put_byte.ensures
 
 pub returns-in-Value : goal.returns-in-Value
 unfolding reading_text
 returns-in-Value c =
-    let last = c in
-    let told = last in
-    let same = to_z-of_z {w = w32} {z = told.in-Value.z} (sfits_of told.in-Value.known_told-1-own.given.0.1) in
-    rw told.in-Value.is (puts_as (ap integer_text same) last.put_integer.ensures)
+    let same = to_z-of_z {w = w32} {z = c.in-Value.z} (sfits_of c.in-Value.known_told-1-own.given.0.1) in
+    rw c.in-Value.is (puts_as (ap integer_text same) c.put_integer.ensures)

@@ -8,17 +8,10 @@ use Rattle.writer.proofs.rule.put_rule.Goals as goal
 pub returns : goal.returns
 unfolding rule_fields
 returns c =
-    let correlation = c in
-    let condition = correlation in
-    let end = condition in
-    let from = end in
-    let target = from in
-    let activation = target in
-    let code = activation in
-    puts_line rule_fields code.args.rule
-    (puts_then code.put_byte_field-at.ensures
-    (puts_then activation.put_byte_field-at-2.ensures
-    (puts_then target.put_byte_field-at-3.ensures
-    (puts_then from.put_number_field-at.ensures
-    (puts_then end.put_end_field-at.ensures
-    (puts_then condition.put_condition_field-at.ensures correlation.put_condition_field.ensures))))))
+    puts_line rule_fields c.args.rule
+    (puts_then c.put_byte_field-at.ensures
+    (puts_then c.put_byte_field-at-2.ensures
+    (puts_then c.put_byte_field-at-3.ensures
+    (puts_then c.put_number_field-at.ensures
+    (puts_then c.put_end_field-at.ensures
+    (puts_then c.put_condition_field-at.ensures c.put_condition_field.ensures))))))

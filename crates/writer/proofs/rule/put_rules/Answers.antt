@@ -18,12 +18,8 @@ loop-k-init c = (omega arith, puts_none _ _)
 pub loop-k-preserved : goal.loop-k-preserved
 unfolding rules_text written_text
 loop-k-preserved c =
-    let last = c in
-    let loop = last.loop-k in
-    (omega arith, puts_more rule_fields _ loop.k _ (omega arith) loop.invariant.1 last.put_rule-at.ensures)
-
--- TODO same_length : tie.Need-same-length invariant-loop decreases-loop
--- TODO same_length c = puts_length c.before.loop.invariant.1
+    let loop = c.loop-k in
+    (omega arith, puts_more rule_fields _ loop.k _ (omega arith) loop.invariant.1 c.put_rule-at.ensures)
 
 pub returns : goal.returns
 returns c =

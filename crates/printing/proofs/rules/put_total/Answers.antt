@@ -1,0 +1,16 @@
+-- The word, and four fields, each with the byte that ends it.
+use Rattle.buffer.proofs.Puts.{puts_then}
+use Rattle.buffer.proofs.Lines.{puts_line}
+use Rattle.printing.specs.Lines.{line_fields}
+use Rattle.printing.specs.Report.{total_of}
+use borrow.Author.Rules.{rules}
+use Rattle.printing.proofs.rules.put_total.Goals as goal
+
+pub returns : goal.returns
+unfolding line_fields total_of
+returns c =
+    puts_line line_fields (total_of c.args.rule c.args.totals)
+    (puts_then c.put_bytes-at.ensures
+    (puts_then c.put_number_field-at.ensures
+    (puts_then c.put_number_field-at-2.ensures
+    (puts_then c.put_number_field-at-3.ensures c.put_number_field.ensures))))
