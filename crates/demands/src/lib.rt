@@ -1,3 +1,2 @@
-#![tactic(auto)]
-
 // The three demands and the cards: definitions and theorems alone, in specs/ and proofs/.
+#![tactic(auto)]
