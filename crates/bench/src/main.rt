@@ -9,11 +9,16 @@
 // close; x closed; s its standings are asked; o its totals; r its text is read; u the rules text
 // is; n the notebook of each cycle is read; v the same, and every standing is looked at; w the
 // first cycle's events are written as a text; p the rules are.
+#![tactic(auto)]
+
 mod input; // input.rt: the parts of the input
 mod weight; // weight.rt: answers made numbers
 mod cycle; // cycle.rt: the calls of a running cycle
 mod texts; // texts.rt: the readers of texts
 mod written; // written.rt: records written as texts
+
+use files::read_full;
+use std::io;
 
 fn measured(letter: u8, turns: usize, cycles: usize, rules: &[u8], rest: &[u8]) -> u64 {
     match letter {
@@ -38,9 +43,9 @@ fn work(text: &[u8]) -> u64 {
     measured(letter, turns, cycles, rules, rest)
 }
 
-fn main() {
-    let mut text = io::large_buffer();
-    let n = io::read_full(0, &mut text);
+fn main(rt: HostRuntime) -> io::Result<()> {
+    let mut text = [0u8; 65536];
+    let n = read_full(&mut rt.reader(), &mut text);
     let sum = work(&text[..n]);
-    io::print_decimal(1, sum);
+    print!(rt; "{sum}")
 }

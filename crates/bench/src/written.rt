@@ -23,7 +23,7 @@ fn rules_into(out: &mut [u8], table: Table, turns: usize) -> u64 {
 
 // w the events of the run are written, p its rules.
 pub fn texts(letter: u8, run: Run, turns: usize) -> u64 {
-    let mut out = io::large_buffer();
+    let mut out = [0u8; 65536];
     if letter == b'w' {
         return cycles_into(&mut out, run, turns);
     }

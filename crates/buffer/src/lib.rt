@@ -1,4 +1,6 @@
 // Lent buffers: bytes and numbers are put at a place, and a whole text is written in front.
+#![tactic(auto)]
+
 ghost use Rattle.std.specs.Prelude.{true};
 ghost use Rattle.buffer.specs.Writes.{Writes};
 

@@ -1,5 +1,7 @@
 // Comparisons, conditions and windows of a rule, for one event at a time, and whether an event
 // that meets them may still come.
+#![tactic(auto)]
+
 pub mod comparison; // comparison.rt: readings, comparisons, and comparisons for one activation
 pub mod conditions; // conditions.rt: conditions of up to four comparisons
 pub mod window; // window.rt: time differences

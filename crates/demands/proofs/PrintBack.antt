@@ -40,7 +40,6 @@ use Rattle.writer.proofs.Room.{rules_room, cycle_room}
 use Rattle.notebook.specs.Notebook.{read_as, notebook_of}
 use Rattle.notebook.proofs.Read.{read_from, read_table, read_valid}
 use Rattle.demands.specs.PrintBack.{ComesOut, PrintBack}
-use Rattle.demands.proofs.Chains.{same}
 
 -- ---- a text and a buffer
 

@@ -1,4 +1,6 @@
 // The standings of a cycle's positions under its rules.
+#![tactic(auto)]
+
 pub mod template; // template.rt: the template of a code, and what a target says
 mod columns; // columns.rt: the events by column
 mod flags; // flags.rt: which events are activations of which rule

@@ -1,5 +1,7 @@
 // Lines and fields: each function is handed the part of the text that begins at the line or the
 // field, and goes over its bytes once.
+#![tactic(auto)]
+
 ghost use Rattle.std.specs.Prelude.{◌≡◌, ◌+◌, get_or, take, drop};
 ghost use Rattle.number.specs.Number.{dash};
 ghost use Rattle.line.specs.Fields.{tab, index_of, before};

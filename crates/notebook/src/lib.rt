@@ -1,4 +1,6 @@
 // The notebook: a finished cycle, read from its two texts.
+#![tactic(auto)]
+
 ghost use Rattle.std.specs.Prelude.{◌≡◌};
 ghost use Rattle.run.specs.Start.{new_run};
 ghost use Rattle.notebook.specs.Types.{Refused};

@@ -1,4 +1,6 @@
 // Document 01's numbers, read a byte at a time: each byte once, a running value and no bytes kept.
+#![tactic(auto)]
+
 ghost use Rattle.std.specs.Prelude.{◌≡◌, ◌<◌, pos, neg_ℤ};
 ghost use Rattle.number.specs.Number.{digit, in_natural_range, in_signed_range};
 ghost use Rattle.number.specs.Reader.{extended, first_digit, pushed, natural_in, integer_in, dash_in};

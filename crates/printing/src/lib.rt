@@ -1,4 +1,6 @@
 // What `report` prints, written into lent buffers.
+#![tactic(auto)]
+
 ghost use Rattle.printing.specs.Printing.{WritesReport, PrintsTexts};
 
 use buffer::{WriteAnswer, write};

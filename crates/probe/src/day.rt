@@ -5,6 +5,7 @@ use crate::bytes::byte;
 use crate::{answer, command};
 use declare::Refusal;
 use run::Run;
+use std::io;
 use tally::{Counted, Outcome, Sum, Tally, absorb, counted_of};
 
 pub fn empty() -> Tally {
@@ -25,13 +26,13 @@ fn set(command: [u8; 32]) -> Tally {
     }
 }
 
-fn said(outcome: Outcome) {
+fn said(rt: &impl Print, outcome: Outcome) -> io::Result<()> {
     match outcome {
-        Outcome::Absorbed => answer::accepted(),
-        Outcome::InvalidRecord => answer::refused(Refusal::InvalidRecord, 0, 0),
-        Outcome::NotFound => answer::refused(Refusal::NotFound, 0, 0),
-        Outcome::WrongPhase => answer::refused(Refusal::WrongPhase, 0, 0),
-        Outcome::Overflow => answer::refused(Refusal::TallyOverflow, 0, 0),
+        Outcome::Absorbed => answer::accepted(rt),
+        Outcome::InvalidRecord => answer::refused(rt, Refusal::InvalidRecord, 0, 0),
+        Outcome::NotFound => answer::refused(rt, Refusal::NotFound, 0, 0),
+        Outcome::WrongPhase => answer::refused(rt, Refusal::WrongPhase, 0, 0),
+        Outcome::Overflow => answer::refused(rt, Refusal::TallyOverflow, 0, 0),
     }
 }
 
@@ -48,39 +49,39 @@ fn absorbed_in_place(tally: Tally, counted: Counted) -> Sum
     }
 }
 
-fn absorbing(tally: Tally, run: Run, command: [u8; 32]) -> Tally {
+fn absorbing(rt: &impl Print, tally: Tally, run: Run, command: [u8; 32]) -> io::Result<Tally> {
     let counted = counted_of(run, command::number(command));
     let sum = absorbed_in_place(tally, counted);
     let outcome = sum.outcome;
-    said(outcome);
-    sum.tally
+    said(rt, outcome)?;
+    Ok(sum.tally)
 }
 
-fn write_number(x: u32) {
+fn write_number(rt: &impl Print, x: u32) -> io::Result<()> {
     let mut out = [0u8; 4];
     out[0] = byte(x, 1);
     out[1] = byte(x, 256);
     out[2] = byte(x, 65536);
     out[3] = byte(x, 16777216);
-    io::write_all(1, &out);
+    rt.write_all(&out)
 }
 
-fn write(tally: Tally) {
-    write_number(tally.cycles);
-    write_number(tally.activations);
-    write_number(tally.fulfilled);
-    write_number(tally.violated);
+fn write(rt: &impl Print, tally: Tally) -> io::Result<()> {
+    write_number(rt, tally.cycles)?;
+    write_number(rt, tally.activations)?;
+    write_number(rt, tally.fulfilled)?;
+    write_number(rt, tally.violated)
 }
 
 // The commands A, b and B.
-pub fn changed(tally: Tally, run: Run, command: [u8; 32]) -> Tally {
+pub fn changed(rt: &impl Print, tally: Tally, run: Run, command: [u8; 32]) -> io::Result<Tally> {
     let letter = command[0];
     match letter {
-        65 => set(command),
-        98 => absorbing(tally, run, command),
+        65 => Ok(set(command)),
+        98 => absorbing(rt, tally, run, command),
         _ => {
-            write(tally);
-            tally
+            write(rt, tally)?;
+            Ok(tally)
         },
     }
 }

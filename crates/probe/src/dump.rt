@@ -11,6 +11,7 @@ use declare::{
 use run::Run;
 use standings::totals::Totals;
 use standings::{Cell, PLACES};
+use std::io;
 
 pub fn least(x: usize, y: usize) -> usize
     ensures { (result ≤ x) × (result ≤ y) }
@@ -35,55 +36,57 @@ fn row_bytes(cells: [Cell; PLACES], base: usize, n: usize) -> [u8; 1024]
     out
 }
 
-fn write_row(cells: [Cell; PLACES], row: usize, n: usize)
+fn write_row(rt: &impl Print, cells: [Cell; PLACES], row: usize, n: usize) -> io::Result<()>
     requires { (n ≤ most_events) × (row < most_rules) }
 {
     let bytes = row_bytes(cells, row * EVENTS, n);
     let end = n * 4;
-    io::write_all(1, &bytes[..end]);
+    rt.write_all(&bytes[..end])
 }
 
-fn write_rows(cells: [Cell; PLACES], rows: usize, n: usize)
+fn write_rows(rt: &impl Print, cells: [Cell; PLACES], rows: usize, n: usize) -> io::Result<()>
     requires { (rows ≤ most_rules) × (n ≤ most_events) }
 {
     for row in 0..rows {
-        write_row(cells, row, n);
+        write_row(rt, cells, row, n)?;
     }
+    Ok(())
 }
 
-pub fn standings(run: Run) -> Run {
+pub fn standings(rt: &impl Print, run: Run) -> io::Result<Run> {
     let cells = run.cells;
     let rows = least(run.table.count, RULES);
     let n = least(run.count, EVENTS);
-    write_rows(cells, rows, n);
-    run
+    write_rows(rt, cells, rows, n)?;
+    Ok(run)
 }
 
-fn write_cell(cell: Cell) {
+fn write_cell(rt: &impl Print, cell: Cell) -> io::Result<()> {
     let s = cell.standing;
     let target = target_of(s);
     let mut out = [0u8; 4];
     out[0] = kind_of(s);
     out[2] = low(target);
     out[3] = high(target);
-    io::write_all(1, &out);
+    rt.write_all(&out)
 }
 
-fn write_overall(cells: [Cell; RULES]) {
+fn write_overall(rt: &impl Print, cells: [Cell; RULES]) -> io::Result<()> {
     for k in 0..RULES {
         let cell = cells[k];
-        write_cell(cell);
+        write_cell(rt, cell)?;
     }
+    Ok(())
 }
 
 // Position 0 of each rule slot.
-pub fn overall(run: Run) -> Run {
+pub fn overall(rt: &impl Print, run: Run) -> io::Result<Run> {
     let cells = run.overall;
-    write_overall(cells);
-    run
+    write_overall(rt, cells)?;
+    Ok(run)
 }
 
-fn write_totals(totals: Totals) {
+fn write_totals(rt: &impl Print, totals: Totals) -> io::Result<()> {
     let mut out = [0u8; 8];
     out[0] = low(totals.activations);
     out[1] = high(totals.activations);
@@ -93,14 +96,15 @@ fn write_totals(totals: Totals) {
     out[5] = high(totals.violated);
     out[6] = low(totals.open);
     out[7] = high(totals.open);
-    io::write_all(1, &out);
+    rt.write_all(&out)
 }
 
-fn write_all_totals(totals: [Totals; RULES]) {
+fn write_all_totals(rt: &impl Print, totals: [Totals; RULES]) -> io::Result<()> {
     for k in 0..RULES {
         let t = totals[k];
-        write_totals(t);
+        write_totals(rt, t)?;
     }
+    Ok(())
 }
 
 fn operator_byte(operator: Operator) -> u8 {
@@ -135,7 +139,7 @@ fn constant(reference: Reference) -> i32 {
     }
 }
 
-fn write_comparison(c: Comparison) {
+fn write_comparison(rt: &impl Print, c: Comparison) -> io::Result<()> {
     let operator = c.operator;
     let reference = c.reference;
     let k = unsigned(constant(reference));
@@ -148,17 +152,17 @@ fn write_comparison(c: Comparison) {
     out[5] = byte(k, 256);
     out[6] = byte(k, 65536);
     out[7] = byte(k, 16777216);
-    io::write_all(1, &out);
+    rt.write_all(&out)
 }
 
-fn write_condition(c: Condition) {
+fn write_condition(rt: &impl Print, c: Condition) -> io::Result<()> {
     let mut out = [0u8; 4];
     out[0] = c.count;
-    io::write_all(1, &out);
-    write_comparison(c.first);
-    write_comparison(c.second);
-    write_comparison(c.third);
-    write_comparison(c.fourth);
+    rt.write_all(&out)?;
+    write_comparison(rt, c.first)?;
+    write_comparison(rt, c.second)?;
+    write_comparison(rt, c.third)?;
+    write_comparison(rt, c.fourth)
 }
 
 fn has_end(end: End) -> u8 {
@@ -175,7 +179,7 @@ fn end_time(end: End) -> u32 {
     }
 }
 
-fn write_rule(rule: Rule) {
+fn write_rule(rt: &impl Print, rule: Rule) -> io::Result<()> {
     let window = rule.window;
     let end = window.until;
     let from = window.from;
@@ -193,16 +197,17 @@ fn write_rule(rule: Rule) {
     out[9] = byte(b, 256);
     out[10] = byte(b, 65536);
     out[11] = byte(b, 16777216);
-    io::write_all(1, &out);
-    write_condition(rule.condition);
-    write_condition(rule.correlation);
+    rt.write_all(&out)?;
+    write_condition(rt, rule.condition)?;
+    write_condition(rt, rule.correlation)
 }
 
-fn write_rules(rules: [Rule; RULES]) {
+fn write_rules(rt: &impl Print, rules: [Rule; RULES]) -> io::Result<()> {
     for k in 0..RULES {
         let rule = rules[k];
-        write_rule(rule);
+        write_rule(rt, rule)?;
     }
+    Ok(())
 }
 
 fn is_blank(reading: Reading) -> u8 {
@@ -219,21 +224,21 @@ fn value(reading: Reading) -> i32 {
     }
 }
 
-fn write_reading(reading: Reading) {
+fn write_reading(rt: &impl Print, reading: Reading) -> io::Result<()> {
     let v = unsigned(value(reading));
     let mut out = [0u8; 4];
     out[0] = byte(v, 1);
     out[1] = byte(v, 256);
     out[2] = byte(v, 65536);
     out[3] = byte(v, 16777216);
-    io::write_all(1, &out);
+    rt.write_all(&out)
 }
 
 fn bits(a: u8, b: u8, c: u8, d: u8) -> u8 {
     a % 2 + b % 2 * 2 + c % 2 * 4 + d % 2 * 8
 }
 
-fn write_event(e: Event) {
+fn write_event(rt: &impl Print, e: Event) -> io::Result<()> {
     let first = e.reading1;
     let second = e.reading2;
     let third = e.reading3;
@@ -250,25 +255,26 @@ fn write_event(e: Event) {
         is_blank(third),
         is_blank(fourth),
     );
-    io::write_all(1, &out);
-    write_reading(first);
-    write_reading(second);
-    write_reading(third);
-    write_reading(fourth);
+    rt.write_all(&out)?;
+    write_reading(rt, first)?;
+    write_reading(rt, second)?;
+    write_reading(rt, third)?;
+    write_reading(rt, fourth)
 }
 
-fn write_events(events: [Event; EVENTS]) {
+fn write_events(rt: &impl Print, events: [Event; EVENTS]) -> io::Result<()> {
     for p in 0..EVENTS {
         let e = events[p];
-        write_event(e);
+        write_event(rt, e)?;
     }
+    Ok(())
 }
 
 fn bit(b: bool) -> u8 {
     if b { 1 } else { 0 }
 }
 
-fn write_count(n: usize) {
+fn write_count(rt: &impl Print, n: usize) -> io::Result<()> {
     let low = (n % 4294967296) as u32;
     let high = (n / 4294967296) as u32;
     let mut out = [0u8; 8];
@@ -280,29 +286,29 @@ fn write_count(n: usize) {
     out[5] = byte(high, 256);
     out[6] = byte(high, 65536);
     out[7] = byte(high, 16777216);
-    io::write_all(1, &out);
+    rt.write_all(&out)
 }
 
-pub fn whole(run: Run) -> Run {
+pub fn whole(rt: &impl Print, run: Run) -> io::Result<Run> {
     let mut out = [0u8; 8];
     out[0] = bit(run.closed);
     out[4] = byte(run.clock, 1);
     out[5] = byte(run.clock, 256);
     out[6] = byte(run.clock, 65536);
     out[7] = byte(run.clock, 16777216);
-    io::write_all(1, &out);
-    write_count(run.count);
+    rt.write_all(&out)?;
+    write_count(rt, run.count)?;
     let table = run.table;
-    write_count(table.count);
+    write_count(rt, table.count)?;
     let rules = table.rules;
-    write_rules(rules);
+    write_rules(rt, rules)?;
     let events = run.events;
-    write_events(events);
+    write_events(rt, events)?;
     let cells = run.cells;
-    write_rows(cells, RULES, EVENTS);
+    write_rows(rt, cells, RULES, EVENTS)?;
     let zero = run.overall;
-    write_overall(zero);
+    write_overall(rt, zero)?;
     let totals = run.totals;
-    write_all_totals(totals);
-    run
+    write_all_totals(rt, totals)?;
+    Ok(run)
 }

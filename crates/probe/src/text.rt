@@ -5,36 +5,38 @@ use crate::dump::least;
 use crate::{answer, command};
 use cycle_text::CycleRead;
 use declare::{Refusal, Table};
+use files::read_full;
 use notebook::{Notebook, Outcome, Text};
 use rule_text::RulesRead;
 use run::Run;
+use std::io;
 
 fn line_of(line: usize) -> u16 {
     (line % 65536) as u16
 }
 
-fn refused(cause: Refusal, line: usize, text: u8) {
-    answer::refused(cause, line_of(line), text);
+fn refused(rt: &impl Print, cause: Refusal, line: usize, text: u8) -> io::Result<()> {
+    answer::refused(rt, cause, line_of(line), text)
 }
 
-fn read_rules(bytes: &mut [u8]) -> RulesRead {
-    io::read_full(0, bytes);
+fn read_rules(rt: &impl Input, bytes: &mut [u8]) -> RulesRead {
+    read_full(&mut rt.reader(), bytes);
     rule_text::read_rules(bytes)
 }
 
-pub fn rules(table: Table, command: [u8; 32]) -> Table {
+pub fn rules(rt: &(impl Input + Print), table: Table, command: [u8; 32]) -> io::Result<Table> {
     let n = least(command::number(command), 65536);
-    let mut bytes = io::large_buffer();
-    let read = read_rules(&mut bytes[..n]);
+    let mut bytes = [0u8; 65536];
+    let read = read_rules(rt, &mut bytes[..n]);
     let outcome = read.outcome;
     match outcome {
         line::Outcome::Accepted => {
-            answer::accepted();
-            read.table
+            answer::accepted(rt)?;
+            Ok(read.table)
         },
         line::Outcome::Refused(cause, line) => {
-            refused(cause, line, 0);
-            table
+            refused(rt, cause, line, 0)?;
+            Ok(table)
         },
     }
 }
@@ -47,24 +49,24 @@ fn with_events(run: Run, read: CycleRead) -> Run {
     next
 }
 
-fn read_cycle(bytes: &mut [u8]) -> CycleRead {
-    io::read_full(0, bytes);
+fn read_cycle(rt: &impl Input, bytes: &mut [u8]) -> CycleRead {
+    read_full(&mut rt.reader(), bytes);
     cycle_text::read_cycle(bytes)
 }
 
-pub fn cycle(run: Run, command: [u8; 32]) -> Run {
+pub fn cycle(rt: &(impl Input + Print), run: Run, command: [u8; 32]) -> io::Result<Run> {
     let n = least(command::number(command), 65536);
-    let mut bytes = io::large_buffer();
-    let read = read_cycle(&mut bytes[..n]);
+    let mut bytes = [0u8; 65536];
+    let read = read_cycle(rt, &mut bytes[..n]);
     let outcome = read.outcome;
     match outcome {
         line::Outcome::Accepted => {
-            answer::accepted();
-            with_events(run, read)
+            answer::accepted(rt)?;
+            Ok(with_events(run, read))
         },
         line::Outcome::Refused(cause, line) => {
-            refused(cause, line, 0);
-            run
+            refused(rt, cause, line, 0)?;
+            Ok(run)
         },
     }
 }
@@ -84,31 +86,31 @@ pub fn size(field: u32) -> usize
 }
 
 // Both texts that follow a command, the rules text first.
-pub fn read_both(rules: &mut [u8], cycle: &mut [u8]) {
-    io::read_full(0, rules);
-    io::read_full(0, cycle);
+pub fn read_both(rt: &impl Input, rules: &mut [u8], cycle: &mut [u8]) {
+    read_full(&mut rt.reader(), rules);
+    read_full(&mut rt.reader(), cycle);
 }
 
-fn read_notebook(rules: &mut [u8], cycle: &mut [u8]) -> Notebook {
-    read_both(rules, cycle);
+fn read_notebook(rt: &impl Input, rules: &mut [u8], cycle: &mut [u8]) -> Notebook {
+    read_both(rt, rules, cycle);
     notebook::read_notebook(rules, cycle)
 }
 
-pub fn notebook(run: Run, command: [u8; 32]) -> Run {
+pub fn notebook(rt: &(impl Input + Print), run: Run, command: [u8; 32]) -> io::Result<Run> {
     let p = size(command::low_half(command));
     let q = size(command::high_half(command));
-    let mut rules = io::large_buffer();
-    let mut cycle = io::large_buffer();
-    let read = read_notebook(&mut rules[..p], &mut cycle[..q]);
+    let mut rules = [0u8; 65536];
+    let mut cycle = [0u8; 65536];
+    let read = read_notebook(rt, &mut rules[..p], &mut cycle[..q]);
     let outcome = read.outcome;
     match outcome {
         Outcome::Closed => {
-            answer::accepted();
-            read.run
+            answer::accepted(rt)?;
+            Ok(read.run)
         },
         Outcome::Refused(text, cause, line) => {
-            refused(cause, line, text_number(text));
-            run
+            refused(rt, cause, line, text_number(text))?;
+            Ok(run)
         },
     }
 }

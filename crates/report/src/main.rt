@@ -1,7 +1,9 @@
 // The verdicts on a finished cycle: reads rules.tsv and cycle.tsv in the current folder, and prints
 // the verdicts or a refusal.
+#![tactic(auto)]
+
 ghost use Rattle.std.specs.Prelude.{◌≡◌, true, false, take};
-ghost use Rattle.io.specs.Counts.{IsPrefixLen};
+ghost use Rattle.files.specs.Counts.{IsPrefixLen};
 ghost use Rattle.line.specs.Texts.{is_all};
 ghost use Rattle.rule_text.specs.Rules.{rules_text_of};
 ghost use Rattle.printing.specs.Report.{printed_of};
@@ -9,6 +11,7 @@ ghost use Rattle.printing.specs.Report.{printed_of};
 use buffer::WriteAnswer;
 use files::FILE_BYTES;
 use printing::{PRINTED_BYTES, print_texts};
+use std::rt::Files;
 
 fn are_accepted(rules: &[u8]) -> bool
     ensures { result ≡ is_all (rules_text_of rules.now) }
@@ -33,43 +36,43 @@ fn printed(rules: &[u8], cycle: &[u8], out: &mut [u8; PRINTED_BYTES]) -> usize
     }
 }
 
-fn print(rules: &[u8], cycle: &[u8]) {
+fn print(rt: &(impl Print + Eprint), rules: &[u8], cycle: &[u8]) {
     let mut out = [0u8; PRINTED_BYTES];
     let length = printed(rules, cycle, &mut out);
-    files::print(&out[..length]);
+    files::print(rt, &out[..length]);
 }
 
 // The cycle file is opened only after the rules are accepted.
-fn read_cycle(rules: &[u8])
+fn read_cycle(rt: &(impl Files + Print + Eprint), rules: &[u8])
     requires { is_all (rules_text_of rules.now) ≡ true }
 {
     let mut cycle = [0u8; FILE_BYTES];
-    let read = files::read_text(b"cycle.tsv", b"cycle", &mut cycle);
+    let read = files::read_text(rt, b"cycle.tsv", b"cycle", &mut cycle);
     if !read.whole {
         return;
     }
     let end = read.length;
-    print(rules, &cycle[..end]);
+    print(rt, rules, &cycle[..end]);
 }
 
 // What is printed of refused rules is the same for every cycle text.
-fn print_refused(rules: &[u8])
+fn print_refused(rt: &(impl Print + Eprint), rules: &[u8])
     requires { is_all (rules_text_of rules.now) ≡ false }
 {
-    print(rules, b"");
+    print(rt, rules, b"");
 }
 
-fn main() {
+fn main(rt: HostRuntime) {
     let mut text = [0u8; FILE_BYTES];
-    let read = files::read_text(b"rules.tsv", b"rules", &mut text);
+    let read = files::read_text(&rt, b"rules.tsv", b"rules", &mut text);
     if !read.whole {
         return;
     }
     let end = read.length;
     let rules = &text[..end];
     if are_accepted(rules) {
-        read_cycle(rules);
+        read_cycle(&rt, rules);
     } else {
-        print_refused(rules);
+        print_refused(&rt, rules);
     }
 }

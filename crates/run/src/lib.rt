@@ -1,4 +1,6 @@
 // A running cycle: its record, and the calls start, take, notice, standing, totals and close.
+#![tactic(auto)]
+
 ghost use Rattle.std.specs.Prelude.{◌≡◌, ◌≤◌, take};
 ghost use Rattle.declare.specs.Limits.{most_events};
 ghost use Rattle.declare.specs.Continuations.{horizon};

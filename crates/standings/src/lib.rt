@@ -1,5 +1,7 @@
 // The store of a run's standings: sixteen rows, one a rule, of 256 cells, one a position, in one
 // flat array.
+#![tactic(auto)]
+
 ghost use Rattle.std.specs.Prelude.{◌≡◌};
 ghost use Rattle.standings.specs.Places.{idle_cells, idle_overall, standing_in, zero_in};
 

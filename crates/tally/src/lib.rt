@@ -1,4 +1,6 @@
 // The day tally of one rule.
+#![tactic(auto)]
+
 ghost use Rattle.std.specs.Prelude.{◌≡◌, ◌+◌, leb};
 ghost use Rattle.tally.specs.Tally.{most_counted, has_room_for, Counts, Absorbs};
 ghost use Rattle.tally.specs.Sums.{summed, counted_for, counted_by};

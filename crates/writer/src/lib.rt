@@ -1,4 +1,6 @@
 // The rules of a table and the events of a run, written as texts into lent buffers.
+#![tactic(auto)]
+
 ghost use Rattle.writer.specs.Writer.{WritesRules, WritesCycle};
 
 use buffer::{WriteAnswer, write};

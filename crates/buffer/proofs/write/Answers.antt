@@ -4,7 +4,6 @@ use native.Mathlib.Omega.{arith}
 use lib.ListN.{length}
 use Rattle.buffer.proofs.Puts.{puts_front}
 use Rattle.buffer.proofs.Writes.{too_short, has_room}
-use borrow.Author.Rules.{rules}
 use Rattle.buffer.proofs.write.Goals as goal
 
 pub returns-then-out-text : goal.returns-then-out-text

@@ -1,5 +1,4 @@
 -- The tests of the definition, of the number.
-use borrow.Author.Rules.{rules}
 use Rattle.declare.specs.Refusals.{has_line}
 use Rattle.declare.proofs.has_line.Goals as goal
 

@@ -1,6 +1,5 @@
 -- By the cause.
 use Rattle.declare.specs.Refusals.{number_of}
-use borrow.Author.Rules.{rules}
 use Rattle.declare.proofs.number_of.Goals as goal
 
 pub returns-in-FieldCount : goal.returns-in-FieldCount

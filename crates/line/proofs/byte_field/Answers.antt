@@ -5,7 +5,6 @@ use Rattle.line.specs.Fields.{tab, before}
 use Rattle.declare.specs.Answers.{accepted}
 use Rattle.line.proofs.Values.{number_read}
 use Rattle.line.specs.Values.{natural_answer, number_field, byte_read}
-use borrow.Author.Rules.{rules}
 use Rattle.line.proofs.byte_field.Goals as goal
 use Rattle.line.proofs.byte_field.Goals.{In-Natural}
 

@@ -1,9 +1,7 @@
 -- `line::find`: at each turn the first index in the whole list is that in what is left, as far on
 -- as was passed.
-use Prim.Native.Nat.{◌+◌, ◌-◌, ◌≤◌}
-use mathlib.Core.Path.{◌≡◌}
 use native.Mathlib.Omega.{arith}
-use lib.ListN.{length, drop, drop_of_length-le}
+use lib.ListN.{drop_of_length-le}
 use Rattle.line.specs.Fields.{index_of}
 use Rattle.line.proofs.Fields.{index_here, index_next}
 use Rattle.line.proofs.find.Goals as goal

@@ -1,9 +1,7 @@
 use Prim.Native.Nat.{◌+◌, ◌-◌, ◌≤◌}
 use mathlib.Core.Path.{◌≡◌}
-use native.Mathlib.Omega.{arith}
-use lib.ListN.{length, drop, drop_of_length-le}
+use lib.ListN.{length, drop}
 use Rattle.line.specs.Fields.{index_of}
-use Rattle.line.proofs.Fields.{index_here, index_next}
 use Rattle.line.proofs.find.Given as goal
 
 abbrev pub invariant-loop-i : goal.invariant-loop-i

@@ -8,7 +8,6 @@ use borrow.Author.Tests.{ne_eqb}
 use lib.Dec.{eqb}
 use lib.ListN.{length, get_or}
 use Rattle.number.specs.Number.{none, dash}
-use borrow.Author.Rules.{rules}
 use Rattle.line.proofs.is_dash.Goals as goal
 
 dash_is : (field : List ℕ) → (eqb (length field) 1 && eqb (get_or field 0 0) 45) ≡ dash field

@@ -7,7 +7,6 @@ use Rattle.line.specs.Types.{FieldScan}
 use Rattle.line.specs.Fields.{before}
 use Rattle.line.specs.Values.{natural_answer, number_field}
 use Rattle.line.specs.Scans.{field_scan}
-use borrow.Author.Rules.{rules}
 use Rattle.line.proofs.number_field.Goals as goal
 
 pub returns : goal.returns

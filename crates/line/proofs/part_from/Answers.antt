@@ -3,7 +3,6 @@ use mathlib.Core.Path.{sym}
 use native.Mathlib.Nat.{le_of_lt}
 use lib.ListN.{drop_of_length-le}
 use Rattle.line.proofs.Fields.{part_rest}
-use borrow.Author.Rules.{rules}
 use Rattle.line.proofs.part_from.Goals as goal
 
 pub returns-then-i-s : goal.returns-then-i-s

@@ -2,7 +2,7 @@
 use mathlib.Core.Path.{sym, ◌∙◌}
 use mir.Syntax.{w32}
 use mir.Facts.{to_z-of_z}
-use borrow.Author.Rules.{sfits_of, rules}
+use borrow.Author.Rules.{sfits_of}
 use Rattle.line.specs.Values.{integer_answer, reading_read}
 use Rattle.line.specs.Scans.{reading_by}
 use Rattle.line.proofs.reading_answer.Goals as goal

@@ -5,7 +5,6 @@ use Rattle.line.specs.Types.{FieldScan}
 use Rattle.line.specs.Fields.{before}
 use Rattle.line.specs.Values.{reading_field}
 use Rattle.line.specs.Scans.{field_scan, reading_by}
-use borrow.Author.Rules.{rules}
 use Rattle.line.proofs.reading_field.Goals as goal
 
 pub returns : goal.returns

@@ -1,7 +1,6 @@
 -- `line::refusal_of` names the causes whose numbers are 2 and 3.
 use Rattle.declare.specs.Refusals.{number_of}
 use Rattle.line.specs.Values.{fault_number}
-use borrow.Author.Rules.{rules}
 use Rattle.line.proofs.refusal_of.Goals as goal
 
 pub returns-in-Form : goal.returns-in-Form

@@ -4,7 +4,6 @@ use Prim.Native.Nat.{◌+◌, ◌≤◌}
 use native.Mathlib.Omega.{arith}
 use lib.ListN.{length, drop_of_length-le}
 use Rattle.line.proofs.Fields.{part_rest}
-use borrow.Author.Rules.{rules}
 use Rattle.line.proofs.rest_of.Goals as goal
 
 pub returns-then-length-part : goal.returns-then-length-part

@@ -1,15 +1,13 @@
 -- `line::scan_field`: at each turn the reader, handed what is left of the field, ends as one that
 -- is handed the whole field.
-use Prim.Native.Nat.{◌+◌, ◌-◌, ◌≤◌}
 use mathlib.Core.Path.{◌≡◌}
 use native.Mathlib.Omega.{arith}
-use lib.ListN.{length, drop, drop_of_length-le}
+use lib.ListN.{drop_of_length-le}
 use Rattle.number.specs.Reader.{after}
 use Rattle.line.specs.Types.{Empty}
 use Rattle.line.specs.Fields.{index_of, before}
 use Rattle.line.specs.Scans.{field_scan}
 use Rattle.line.proofs.Fields.{index_here, index_next, before_here, before_next}
-use borrow.Author.Rules.{rules}
 use Rattle.line.proofs.scan_field.Goals as goal
 
 pub loop-i-init : goal.loop-i-init

@@ -1,17 +1,13 @@
 use Prim.Native.Nat.{◌+◌, ◌-◌, ◌≤◌}
 use mathlib.Core.Path.{◌≡◌}
-use native.Mathlib.Omega.{arith}
-use lib.ListN.{length, drop, drop_of_length-le}
+use lib.ListN.{length, drop}
 use Rattle.number.specs.Reader.{after}
 use Rattle.line.specs.Types.{Empty}
 use Rattle.line.specs.Fields.{index_of, before}
-use Rattle.line.specs.Scans.{field_scan}
-use Rattle.line.proofs.Fields.{index_here, index_next, before_here, before_next}
-use borrow.Author.Rules.{rules}
 use Rattle.line.proofs.scan_field.Given as goal
 
 abbrev pub invariant-loop-i : goal.invariant-loop-i
-invariant-loop-i l =    (l.i ≤ length l.part)
+invariant-loop-i l = (l.i ≤ length l.part)
     × (index_of l.separator l.part ≡ l.i + index_of l.separator (drop l.i l.part))
     × (after l.reader (before l.separator (drop l.i l.part)) ≡ after Empty (before l.separator l.part))
 

@@ -1,9 +1,8 @@
 -- `line::scan_line`: at each turn the index of LF, and the tabs before it, in the whole text are
 -- those found so far and those of what is left. A byte above LF is neither.
-use Prim.Native.Nat.{◌+◌, ◌-◌, ◌≤◌}
 use mathlib.Core.Path.{◌≡◌}
 use native.Mathlib.Omega.{arith}
-use lib.ListN.{length, drop, drop_of_length-le}
+use lib.ListN.{drop_of_length-le}
 use Rattle.line.specs.Fields.{LF, tab, index_of, before, count_of}
 use Rattle.line.specs.Scans.{line_scan}
 use Rattle.line.proofs.Fields.{index_here, index_next, before_here, count_here, count_next}
@@ -41,11 +40,11 @@ loop-i-preserved c =
     let i = c.loop-i.i in
     let h = c.loop-i-test.true in
     elim c.if-byte-le-LINE_FEED.branch [
-      then-byte-le-LINE_FEED+else-byte-eq-LINE_FEED+then-byte-eq-TAB w ↦
+      | then-byte-le-LINE_FEED+else-byte-eq-LINE_FEED+then-byte-eq-TAB w ↦
           omega (arith, index_next LF s i h w.if-byte-eq-LINE_FEED.false, count_here LF tab s i h w.if-byte-eq-LINE_FEED.false w.if-byte-eq-TAB.true)
-    | then-byte-le-LINE_FEED+else-byte-eq-LINE_FEED+else-byte-eq-TAB w ↦
+      | then-byte-le-LINE_FEED+else-byte-eq-LINE_FEED+else-byte-eq-TAB w ↦
           omega (arith, index_next LF s i h w.if-byte-eq-LINE_FEED.false, count_next LF tab s i h w.if-byte-eq-LINE_FEED.false w.if-byte-eq-TAB.false)
-    | else-byte-le-LINE_FEED w ↦
+      | else-byte-le-LINE_FEED w ↦
           omega (arith, index_next LF s i h (λ e. omega (arith, w.if-byte-le-LINE_FEED.false)), count_next LF tab s i h (λ e. omega (arith, w.if-byte-le-LINE_FEED.false)) (λ e. omega (arith, w.if-byte-le-LINE_FEED.false)))
     ]
 

@@ -1,15 +1,11 @@
 use Prim.Native.Nat.{◌+◌, ◌-◌, ◌≤◌}
 use mathlib.Core.Path.{◌≡◌}
-use mathlib.Core.Logic.{⊎_elim}
-use native.Mathlib.Omega.{arith}
-use lib.ListN.{length, drop, drop_of_length-le}
+use lib.ListN.{length, drop}
 use Rattle.line.specs.Fields.{LF, tab, index_of, before, count_of}
-use Rattle.line.specs.Scans.{line_scan}
-use Rattle.line.proofs.Fields.{index_here, index_next, before_here, count_here, count_next}
 use Rattle.line.proofs.scan_line.Given as goal
 
 abbrev pub invariant-loop-i : goal.invariant-loop-i
-invariant-loop-i l =    (l.i ≤ length l.text)
+invariant-loop-i l = (l.i ≤ length l.text)
     × (l.tabs ≤ l.i)
     × (index_of LF l.text ≡ l.i + index_of LF (drop l.i l.text))
     × (count_of tab (before LF l.text) ≡ l.tabs + count_of tab (before LF (drop l.i l.text)))

@@ -1,6 +1,5 @@
 -- By the outcome of the cycle text.
 use Rattle.notebook.proofs.Replies.{cycle_refused, cycle_accepted}
-use borrow.Author.Rules.{rules}
 use Rattle.notebook.proofs.read_with.Goals as goal
 
 -- src/lib.rt:64:1

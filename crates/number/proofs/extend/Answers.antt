@@ -1,7 +1,6 @@
 -- `number::extend` is `extended`: the test says whether the value is still below the bound.
 use borrow.Author.Tests.{lt-ltb, le-ltb}
 use Rattle.number.specs.Reader.{bound, extended}
-use borrow.Author.Rules.{rules}
 use Rattle.number.proofs.extend.Goals as goal
 
 pub returns-then-value-lt-BOUND : goal.returns-then-value-lt-BOUND

@@ -3,7 +3,6 @@ use mathlib.Core.Path.{sym, ◌∙◌}
 use borrow.Author.Tests.{eq-eqb, ne_eqb}
 use Rattle.number.specs.Reader.{first_digit}
 use Rattle.number.proofs.Digits.{digit_low}
-use borrow.Author.Rules.{rules}
 use Rattle.number.proofs.first_digit.Goals as goal
 
 pub overflow_sub-value : goal.overflow_sub-value

@@ -1,7 +1,6 @@
 -- `number::natural_answer` tests the two ends of the range, as `in_natural_range` does.
 use borrow.Author.Tests.{le-leb, lt-leb}
 use Rattle.number.specs.Number.{in_natural_range}
-use borrow.Author.Rules.{rules}
 use Rattle.number.proofs.natural_answer.Goals as goal
 
 pub returns-then-value-low : goal.returns-then-value-low

@@ -4,7 +4,6 @@ use native.Mathlib.Omega.{arith}
 use mir.Syntax.{w32}
 use mir.Facts.{sfits_widen}
 use Rattle.number.proofs.Signed.{down, down_64, down_32, fits_down, signed_down, signed_low}
-use borrow.Author.Rules.{rules}
 use Rattle.number.proofs.negative_answer.Goals as goal
 
 pub overflow_sub-result : goal.overflow_sub-result

@@ -4,7 +4,6 @@ use mathlib.Core.Path.{sym, ◌∙◌}
 use native.Mathlib.Omega.{arith}
 use Rattle.number.specs.Reader.{pushed}
 use Rattle.number.proofs.Digits.{digit_low, digit_high}
-use borrow.Author.Rules.{rules}
 use Rattle.number.proofs.next_digit.Goals as goal
 
 pub overflow_sub-byte : goal.overflow_sub-byte

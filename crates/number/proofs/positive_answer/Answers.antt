@@ -1,7 +1,6 @@
 -- `number::positive_answer`: of a number that is not negative only the upper end of the range is
 -- tested.
 use Rattle.number.proofs.Signed.{up, signed_up, signed_high}
-use borrow.Author.Rules.{rules}
 use Rattle.number.proofs.positive_answer.Goals as goal
 
 pub returns-then-value-le2147483647 : goal.returns-then-value-le2147483647

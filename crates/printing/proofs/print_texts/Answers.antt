@@ -2,7 +2,6 @@
 use native.Mathlib.Omega.{arith}
 use Rattle.notebook.proofs.Read.{refused_at}
 use Rattle.printing.proofs.Texts.{closed_valid, closed_printed, closed_few, refused_reply, refused_printed, refused_few}
-use borrow.Author.Rules.{rules}
 use Rattle.printing.proofs.print_texts.Goals as goal
 
 pub overflow_cast-line : goal.overflow_cast-line

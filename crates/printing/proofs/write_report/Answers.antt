@@ -1,14 +1,10 @@
 -- Refused if the run is not valid; else its report has room in the local buffer, and is handed on.
-use mathlib.Core.Path.{◌≡◌, sym, ◌∙◌}
-use mathlib.Core.Bool.{true}
-use borrow.Author.Tests.{not-true, not-false}
+use mathlib.Core.Path.{sym, ◌∙◌}
 use lib.Seq.{length-take-le}
-use Rattle.run.specs.Records.{valid_run}
 use Rattle.run.proofs.Bounds.{valid_parts}
 use Rattle.buffer.proofs.Puts.{puts_within}
 use Rattle.buffer.proofs.Writes.{refuses, hands_on}
 use Rattle.printing.proofs.Room.{report_within}
-use borrow.Author.Rules.{rules}
 use Rattle.printing.proofs.write_report.Goals as goal
 
 pub returns-then-not-valid_run : goal.returns-then-not-valid_run

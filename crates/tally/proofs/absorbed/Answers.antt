@@ -3,7 +3,6 @@ use mathlib.Core.Path.{refl, ap}
 use Rattle.tally.specs.declared.Outcome.TheVariants.{InvalidRecord, NotFound, WrongPhase}
 use Rattle.tally.specs.Tally.{tally_answer, counted_answer}
 use Rattle.tally.proofs.Sums.{absorbs_totals, absorbs_none}
-use borrow.Author.Rules.{rules}
 use Rattle.tally.proofs.absorbed.Goals as goal
 
 pub returns-in-Are : goal.returns-in-Are

@@ -3,7 +3,6 @@ use mathlib.Core.Path.{ap}
 use mathlib.Core.Bool.{not}
 use borrow.Author.Tests.{not-true, not-false}
 use Rattle.tally.specs.Sums.{counted_by}
-use borrow.Author.Rules.{rules}
 use Rattle.tally.proofs.counted_by.Goals as goal
 
 pub returns-then-not-closed : goal.returns-then-not-closed

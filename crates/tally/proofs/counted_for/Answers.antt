@@ -1,6 +1,5 @@
 -- By the number of the cause.
 use mathlib.Core.Path.{sym, ◌∙◌}
-use borrow.Author.Rules.{rules}
 use borrow.Author.Tests.{eq-eqb, ne_eqb}
 use Rattle.declare.specs.Refusals.{number_of}
 use Rattle.tally.specs.Sums.{counted_for}

@@ -1,6 +1,5 @@
 -- The totals have replied as document 01 says; the law `counts` reads their answer.
 use Rattle.tally.proofs.Sums.{counts}
-use borrow.Author.Rules.{rules}
 use Rattle.tally.proofs.counted_of.Goals as goal
 
 pub returns : goal.returns

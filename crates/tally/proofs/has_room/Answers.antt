@@ -1,4 +1,3 @@
-use borrow.Author.Rules.{rules}
 use Rattle.tally.proofs.has_room.Goals as goal
 
 -- The sum in 64 bits is the sum.

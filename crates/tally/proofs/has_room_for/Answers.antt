@@ -1,6 +1,5 @@
 -- Each field by itself, in the order of the definition.
 use Rattle.tally.specs.Tally.{has_room_for}
-use borrow.Author.Rules.{rules}
 use Rattle.tally.proofs.has_room_for.Goals as goal
 
 pub returns : goal.returns

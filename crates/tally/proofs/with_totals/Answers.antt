@@ -2,11 +2,9 @@
 use mathlib.Core.Path.{◌≡◌, sym, ◌∙◌}
 use mathlib.Core.Bool.{true}
 use native.Mathlib.Omega.{arith}
-use borrow.Author.Tests.{not-true, not-false}
 use Rattle.tally.specs.Tally.{has_room_for}
 use Rattle.tally.specs.Sums.{summed}
 use Rattle.tally.proofs.Sums.{Room, room}
-use borrow.Author.Rules.{rules}
 use Rattle.tally.proofs.with_totals.Goals as goal
 use Rattle.tally.proofs.with_totals.Goals.{Else-not-has_room_for}
 

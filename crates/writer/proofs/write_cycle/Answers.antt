@@ -1,14 +1,11 @@
 -- Refused if the run is not valid; else its text has room in the local buffer, and is handed on.
-use mathlib.Core.Path.{◌≡◌, sym, ◌∙◌}
-use mathlib.Core.Bool.{true}
-use borrow.Author.Tests.{not-true, not-false}
+use mathlib.Core.Path.{sym, ◌∙◌}
 use lib.Seq.{length-take-le}
-use Rattle.run.specs.Records.{events_of, valid_run}
+use Rattle.run.specs.Records.{events_of}
 use Rattle.run.proofs.Bounds.{valid_parts}
 use Rattle.buffer.proofs.Puts.{puts_within}
 use Rattle.buffer.proofs.Writes.{refuses, hands_on}
 use Rattle.writer.proofs.Room.{cycle_room}
-use borrow.Author.Rules.{rules}
 use Rattle.writer.proofs.write_cycle.Goals as goal
 
 pub returns-then-not-valid_run : goal.returns-then-not-valid_run

@@ -1,14 +1,11 @@
 -- Refused if the table is not valid; else its text has room in the local buffer, and is handed on.
-use mathlib.Core.Path.{◌≡◌, sym, ◌∙◌}
-use mathlib.Core.Bool.{true}
-use borrow.Author.Tests.{not-true, not-false}
+use mathlib.Core.Path.{sym, ◌∙◌}
 use lib.Seq.{length-take-le}
-use Rattle.declare.specs.Rules.{rules_of, valid_table}
+use Rattle.declare.specs.Rules.{rules_of}
 use Rattle.declare.proofs.Tables.{rules_within}
 use Rattle.buffer.proofs.Puts.{puts_within}
 use Rattle.buffer.proofs.Writes.{refuses, hands_on}
 use Rattle.writer.proofs.Room.{rules_room}
-use borrow.Author.Rules.{rules}
 use Rattle.writer.proofs.write_rules.Goals as goal
 
 pub returns-then-not-valid_table : goal.returns-then-not-valid_table

@@ -12,7 +12,6 @@ use mir.Facts.{to_z-of_z}
 use Rattle.number.specs.Number.{hyphen}
 use Rattle.number.specs.Written.{digits_of, integer_text}
 use Rattle.buffer.proofs.Puts.{puts_then, puts_as}
-use borrow.Author.Rules.{rules}
 use Rattle.buffer.proofs.numbers.put_integer.Goals as goal
 
 below : (z : ℤ) (m : ℕ) → lt_z z (pos 0) ≡ true → m ≡ nat_abs z → hyphen ∷ digits_of m ≡ integer_text z

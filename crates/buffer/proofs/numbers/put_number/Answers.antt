@@ -13,7 +13,6 @@ use Rattle.number.specs.Written.{digits_of}
 use Rattle.number.proofs.Written.{digits_one, digits_more}
 use Rattle.number.proofs.Lengths.{digits_length}
 use Rattle.buffer.proofs.Puts.{puts_as}
-use borrow.Author.Rules.{rules}
 use Rattle.buffer.proofs.numbers.put_number.Goals as goal
 
 -- ---- the digits by number

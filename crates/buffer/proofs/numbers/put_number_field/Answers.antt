@@ -1,6 +1,5 @@
 -- The number, then the byte.
 use Rattle.buffer.proofs.Puts.{puts_then}
-use borrow.Author.Rules.{rules}
 use Rattle.buffer.proofs.numbers.put_number_field.Goals as goal
 
 pub returns : goal.returns

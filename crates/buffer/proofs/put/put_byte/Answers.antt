@@ -1,6 +1,5 @@
 -- One byte: set where there is room.
 use Rattle.buffer.proofs.Puts.{puts_one, puts_full}
-use borrow.Author.Rules.{rules}
 use Rattle.buffer.proofs.put.put_byte.Goals as goal
 
 pub returns-then-at-out : goal.returns-then-at-out

@@ -11,7 +11,6 @@ use lib.ListN.{length, take, drop, set, get_or, take-append-drop}
 use lib.Seq.{take-suc, take_all}
 use Rattle.buffer.specs.Puts.{Puts}
 use Rattle.buffer.proofs.Puts.{puts_none, puts_one, puts_then, puts_as, puts_full, puts_length}
-use borrow.Author.Rules.{rules}
 use Rattle.buffer.proofs.put.put_bytes.Goals as goal
 
 -- one byte more

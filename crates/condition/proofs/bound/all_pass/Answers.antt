@@ -8,7 +8,6 @@ use Rattle.declare.specs.declared.Test.{Test}
 use Rattle.declare.specs.Comparisons.{passes}
 use Rattle.condition.specs.declared.bound.Tests.{Tests}
 use Rattle.condition.proofs.Four.{passed, failed, Second, Third, Fourth, untried, ended, lost, kept, last}
-use borrow.Author.Rules.{rules}
 use Rattle.condition.proofs.bound.all_pass.Goals as goal
 use Rattle.condition.proofs.bound.all_pass.Goals.{Else-not-passes, Else-not-passes-2, Else-not-passes-3, Start}
 

@@ -1,7 +1,6 @@
 -- The rule's target and window, the activation's time, and the correlation's four comparisons, each
 -- made a test.
 use Rattle.condition.specs.Bound.{tests_for, bound_of}
-use borrow.Author.Rules.{rules}
 use Rattle.condition.proofs.bound.bound_of.Goals as goal
 
 pub returns : goal.returns

@@ -1,6 +1,5 @@
 -- The rule's target and window, the time, and the tests of the activation condition.
 use Rattle.condition.specs.Bound.{cycle_bound}
-use borrow.Author.Rules.{rules}
 use Rattle.condition.proofs.bound.cycle_bound.Goals as goal
 
 pub returns : goal.returns

@@ -1,6 +1,5 @@
 -- Four comparisons, each made a test.
 use Rattle.condition.specs.Bound.{tests_for}
-use borrow.Author.Rules.{rules}
 use Rattle.condition.proofs.bound.tests_for.Goals as goal
 
 pub returns : goal.returns

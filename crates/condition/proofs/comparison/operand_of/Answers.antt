@@ -1,5 +1,5 @@
 -- A blank is missing; a number is the same number at 64 bits.
-use borrow.Author.Rules.{sfits_of, rules}
+use borrow.Author.Rules.{sfits_of}
 use Rattle.declare.proofs.Casts.{widens, widened}
 use Rattle.condition.proofs.comparison.operand_of.Goals as goal
 

@@ -1,6 +1,5 @@
 -- `holds` of the reading that the test names and of its number.
 use Rattle.declare.specs.Comparisons.{passes}
-use borrow.Author.Rules.{rules}
 use Rattle.condition.proofs.comparison.passes.Goals as goal
 
 pub returns : goal.returns

@@ -4,7 +4,6 @@ use mathlib.Core.Path.{◌≡◌, refl}
 use Rattle.declare.specs.declared.Event.{Event}
 use Rattle.declare.specs.declared.Reading.TheVariants.{Blank}
 use Rattle.declare.specs.Comparisons.{reading_of}
-use borrow.Author.Rules.{rules}
 use Rattle.condition.proofs.comparison.reading_of.Goals as goal
 
 no_reading : (e : Event) (k : ℕ) → (k ≡ 1 → ⊥) → (k ≡ 2 → ⊥) → (k ≡ 3 → ⊥) → (k ≡ 4 → ⊥) → Blank ≡ reading_of e k

@@ -1,6 +1,5 @@
 -- The comparison, with what `reference_of` gives for its reference.
 use Rattle.declare.specs.Comparisons.{test_of}
-use borrow.Author.Rules.{rules}
 use Rattle.condition.proofs.comparison.test_of.Goals as goal
 
 pub returns : goal.returns

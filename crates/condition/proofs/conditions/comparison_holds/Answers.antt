@@ -1,5 +1,4 @@
 -- The comparison is made a test, and the test is tried.
-use borrow.Author.Rules.{rules}
 use Rattle.condition.proofs.conditions.comparison_holds.Goals as goal
 
 pub returns : goal.returns

@@ -10,7 +10,6 @@ use Rattle.condition.specs.declared.bound.Tests.{Tests}
 use Rattle.condition.specs.Bound.{tests_for}
 use Rattle.condition.proofs.Four.{passed, failed, Second, Third, Fourth, untried, ended, lost, kept, last}
 use Rattle.condition.proofs.Laws.{met_bound}
-use borrow.Author.Rules.{rules}
 use Rattle.condition.proofs.conditions.met.Goals as goal
 use Rattle.condition.proofs.conditions.met.Goals.{Else-not-comparison_holds, Else-not-comparison_holds-2, Else-not-comparison_holds-3, Start}
 

@@ -1,7 +1,6 @@
 -- A test of another reading asks nothing.
 use borrow.Author.Tests.{eq-eqb, ne_eqb}
 use Rattle.declare.specs.Reachability.{asks}
-use borrow.Author.Rules.{rules}
 use Rattle.condition.proofs.reachability.asks.Goals as goal
 
 pub returns-then-t-k : goal.returns-then-t-k

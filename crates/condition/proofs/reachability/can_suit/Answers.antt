@@ -3,7 +3,6 @@ use mathlib.Core.Path.{ap}
 use mathlib.Core.Bool.{not}
 use Rattle.condition.specs.Bound.{can_suit_bound}
 use Rattle.condition.proofs.Four.{passed, failed}
-use borrow.Author.Rules.{rules}
 use Rattle.condition.proofs.reachability.can_suit.Goals as goal
 
 pub returns-then-not-has_room : goal.returns-then-not-has_room

@@ -1,5 +1,4 @@
 -- The edge is tried as any other value.
-use borrow.Author.Rules.{rules}
 use Rattle.condition.proofs.reachability.edge_meets.Goals as goal
 
 pub returns : goal.returns

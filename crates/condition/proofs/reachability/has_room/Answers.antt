@@ -6,7 +6,6 @@ use native.Mathlib.Omega.{arith}
 use borrow.Author.Tests.{le-leb, lt-leb}
 use Rattle.declare.specs.Events.{latest}
 use Rattle.declare.specs.Reachability.{soonest, has_room}
-use borrow.Author.Rules.{rules}
 use Rattle.condition.proofs.reachability.has_room.Goals as goal
 
 pub returns-then-time-from : goal.returns-then-time-from

@@ -3,7 +3,6 @@ use mathlib.Core.Path.{ap}
 use mathlib.Core.Bool.{not}
 use Rattle.declare.specs.Reachability.{meets}
 use Rattle.condition.proofs.Four.{passed, failed}
-use borrow.Author.Rules.{rules}
 use Rattle.condition.proofs.reachability.meets.Goals as goal
 
 pub returns-then-not-in_range : goal.returns-then-not-in_range

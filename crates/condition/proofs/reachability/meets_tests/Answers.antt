@@ -8,7 +8,6 @@ use Rattle.declare.specs.declared.Test.{Test}
 use Rattle.declare.specs.Reachability.{asks}
 use Rattle.condition.specs.declared.bound.Tests.{Tests}
 use Rattle.condition.proofs.Four.{passed, failed, Second, Third, Fourth, untried, ended, lost, kept, last}
-use borrow.Author.Rules.{rules}
 use Rattle.condition.proofs.reachability.meets_tests.Goals as goal
 use Rattle.condition.proofs.reachability.meets_tests.Goals.{Else-not-asks, Else-not-asks-2, Else-not-asks-3, Start}
 

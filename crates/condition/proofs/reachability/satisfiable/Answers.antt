@@ -7,7 +7,6 @@ use Rattle.declare.specs.Lists.{all, any}
 use Rattle.declare.specs.Events.{in_range}
 use Rattle.declare.specs.Reachability.{meets, candidates, some_meets, satisfiable}
 use Rattle.condition.proofs.Four.{passed, failed, no_tests}
-use borrow.Author.Rules.{rules}
 use Rattle.condition.proofs.reachability.satisfiable.Goals as goal
 
 pub returns-then-count-lt1 : goal.returns-then-count-lt1

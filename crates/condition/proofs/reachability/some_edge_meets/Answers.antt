@@ -10,7 +10,6 @@ use Rattle.declare.specs.Reachability.{meets, edge}
 use Rattle.condition.specs.declared.bound.Tests.{Tests}
 use Rattle.condition.specs.Bound.{test_list}
 use Rattle.condition.proofs.Four.{Second, Third, Fourth, untried, ended, lost, kept, last, any_all}
-use borrow.Author.Rules.{rules}
 use Rattle.condition.proofs.reachability.some_edge_meets.Goals as goal
 use Rattle.condition.proofs.reachability.some_edge_meets.Goals.{Else-edge_meets, Else-edge_meets-2, Else-edge_meets-3, Start}
 

@@ -3,7 +3,6 @@ use mathlib.Core.Path.{sym, ◌∙◌}
 use Rattle.declare.specs.Lists.{any}
 use Rattle.declare.specs.Events.{least}
 use Rattle.declare.specs.Reachability.{candidates, some_meets}
-use borrow.Author.Rules.{rules}
 use Rattle.condition.proofs.reachability.some_meets.Goals as goal
 
 pub returns-then-meets : goal.returns-then-meets

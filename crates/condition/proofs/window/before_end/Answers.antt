@@ -1,6 +1,5 @@
 -- No end, or a first difference outside.
 use Rattle.declare.specs.Suits.{before_end}
-use borrow.Author.Rules.{rules}
 use Rattle.condition.proofs.window.before_end.Goals as goal
 
 pub returns-in-Never : goal.returns-in-Never

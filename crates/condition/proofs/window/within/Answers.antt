@@ -1,6 +1,5 @@
 -- Both tests of the definition.
 use Rattle.declare.specs.Suits.{within}
-use borrow.Author.Rules.{rules}
 use Rattle.condition.proofs.window.within.Goals as goal
 
 pub returns : goal.returns

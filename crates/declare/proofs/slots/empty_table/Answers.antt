@@ -1,5 +1,4 @@
 -- The record of the definition.
-use borrow.Author.Rules.{rules}
 use Rattle.declare.specs.Slots.{padded, table_of, empty_table}
 use Rattle.declare.proofs.slots.empty_table.Goals as goal
 

@@ -1,6 +1,5 @@
 -- By the definition.
 use Rattle.declare.specs.Rules.{no_condition}
-use borrow.Author.Rules.{rules}
 use Rattle.declare.proofs.slots.no_condition.Goals as goal
 
 pub returns : goal.returns

@@ -1,7 +1,6 @@
 -- A decided standing is carried over; an event that is no activation is idle. What is known after
 -- the scan is said once; then each return is the law for its case.
 use mathlib.Core.Path.{◌≡◌, sym, ◌∙◌, ap}
-use borrow.Author.Tests.{not-true, not-false}
 use mathlib.Core.Bool.{Bool, true, false}
 use mathlib.Core.List.{List}
 use Prim.Native.Nat.{ℕ, ◌+◌, min}
@@ -28,7 +27,6 @@ use Rattle.judge.specs.Spans.{span_of}
 use Rattle.judge.proofs.Activations.{flag_tells}
 use Rattle.judge.proofs.Spans.{span_start}
 use Rattle.judge.proofs.Judged.{Known, idle_here, with_target, out_of_reach, in_reach_lem}
-use borrow.Author.Rules.{rules}
 use Rattle.judge.proofs.cells.judge.Goals as goal
 
 pub returns-then-is_decided : goal.returns-then-is_decided

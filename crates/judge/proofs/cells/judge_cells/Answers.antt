@@ -5,8 +5,7 @@ use borrow.Author.Rules.{rules}
 use borrow.Author.Tests.{not-false}
 use mathlib.Core.Path.{◌≡◌, sym, ap, ap₂, subst, subst₂, ◌∙◌}
 use mathlib.Core.List.{List}
-use mathlib.Core.Logic.{⊎_elim}
-use Prim.Native.Nat.{ℕ, ◌+◌, ◌-◌, ◌*◌, ◌≤◌, ◌<◌}
+use Prim.Native.Nat.{ℕ, ◌+◌, ◌≤◌, ◌<◌}
 use native.Mathlib.Omega.{arith}
 use lib.ListN.{length, get_or, take}
 use Rattle.declare.specs.declared.Standing.{Standing}
@@ -93,18 +92,18 @@ loop-j-preserved c =
     let here = placed c.before.before.before in
     let f : ℕ → Cell → Cell = changed_cell (judged_at a.running a.table (take a.n a.events) a.horizon) rows.result width.result in
     elim c.if-flags-j.branch [
-      then-flags-j w ↦ (
+      | then-flags-j w ↦ (
         omega arith,
         subst (λ (u : List Cell). Swept f a.cells u (l.j + 1)) (sym w.cells-is) (swept_again l.invariant.1 idle_cell (omega arith) (judged_cell here a.running a.horizon before w.judge-next.ensures)),
         subst₂ (λ (u : List Cell) (v : List Totals). Counting width.result u a.totals v (l.j + 1)) (sym w.cells-is) (sym w.totals-is) (counting_set l.invariant.2 few low (omega arith) _ w.with_standing.ensures),
       )
-    | else-flags-j w ↦
-        let none = neither _ _ w.if-flags-j.false in
-        let idle = only_idle _ (sym c.is_idle.ensures ∙ not-false _ none.1) in (
-          omega arith,
-          subst (λ (u : List Cell). Swept f a.cells u (l.j + 1)) (sym w.cells-is) (swept_kept l.invariant.1 idle_cell (omega arith) (idle_stays here a.running a.horizon before none.0 idle)),
-          subst₂ (λ (u : List Cell) (v : List Totals). Counting width.result u a.totals v (l.j + 1)) (sym w.cells-is) (sym w.totals-is) (counting_idle l.invariant.2 few low idle),
-        )
+      | else-flags-j w ↦
+          let none = neither _ _ w.if-flags-j.false in
+          let idle = only_idle _ (sym c.is_idle.ensures ∙ not-false _ none.1) in (
+            omega arith,
+            subst (λ (u : List Cell). Swept f a.cells u (l.j + 1)) (sym w.cells-is) (swept_kept l.invariant.1 idle_cell (omega arith) (idle_stays here a.running a.horizon before none.0 idle)),
+            subst₂ (λ (u : List Cell) (v : List Totals). Counting width.result u a.totals v (l.j + 1)) (sym w.cells-is) (sym w.totals-is) (counting_idle l.invariant.2 few low idle),
+          )
     ]
 
 pub returns : goal.returns

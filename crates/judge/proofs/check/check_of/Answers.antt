@@ -3,7 +3,6 @@ use borrow.Author.Tests.{leb-true}
 use Rattle.declare.specs.Rules.{is_reading}
 use Rattle.declare.proofs.Booleans.{and₂}
 use Rattle.judge.specs.Checks.{check_of}
-use borrow.Author.Rules.{rules}
 use Rattle.judge.proofs.check.check_of.Goals as goal
 
 pub overflow_sub-k : goal.overflow_sub-k

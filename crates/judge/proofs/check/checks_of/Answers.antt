@@ -1,6 +1,5 @@
 -- One check a test.
 use Rattle.judge.specs.Checks.{checks_of}
-use borrow.Author.Rules.{rules}
 use Rattle.judge.proofs.check.checks_of.Goals as goal
 
 pub returns : goal.returns

@@ -1,5 +1,5 @@
 -- A number is the same number at 64 bits, and not past the greatest reading.
-use borrow.Author.Rules.{rules, sfits_of}
+use borrow.Author.Rules.{sfits_of}
 use Rattle.declare.specs.Events.{greatest}
 use Rattle.declare.proofs.Casts.{widens, widened}
 use Rattle.judge.proofs.ByColumn.{not_past}

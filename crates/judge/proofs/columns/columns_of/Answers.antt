@@ -1,14 +1,11 @@
 -- The columns show the events passed so far; the stores of a turn change no earlier place.
 use borrow.Author.Rules.{rules}
 use mathlib.Core.Path.{◌≡◌, refl}
-use Prim.Native.Nat.{◌-◌, ◌*◌, ◌≤◌}
 use native.Mathlib.Omega.{arith}
-use lib.ListN.{length, get_or, length-set}
+use lib.ListN.{get_or, length-set}
 use mir.Syntax.{w64}
 use mir.Val.{to_z, of_z}
-use Rattle.declare.specs.Limits.{most_events, readings}
 use Rattle.declare.specs.Events.{no_event}
-use Rattle.judge.specs.Columns.{Shows}
 use Rattle.judge.proofs.ByColumn.{shows_none, shows_again}
 use Rattle.judge.proofs.columns.columns_of.Goals as goal
 

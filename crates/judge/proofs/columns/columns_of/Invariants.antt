@@ -1,14 +1,8 @@
-use borrow.Author.Rules.{rules}
-use mathlib.Core.Path.{◌≡◌, refl}
+use mathlib.Core.Path.{◌≡◌}
 use Prim.Native.Nat.{◌-◌, ◌*◌, ◌≤◌}
-use native.Mathlib.Omega.{arith}
-use lib.ListN.{length, get_or, length-set}
-use mir.Syntax.{w64}
-use mir.Val.{to_z, of_z}
+use lib.ListN.{length}
 use Rattle.declare.specs.Limits.{most_events, readings}
-use Rattle.declare.specs.Events.{no_event}
 use Rattle.judge.specs.Columns.{Shows}
-use Rattle.judge.proofs.ByColumn.{shows_none, shows_again}
 use Rattle.judge.proofs.columns.columns_of.Given as goal
 
 abbrev pub invariant-loop-q : goal.invariant-loop-q

@@ -1,5 +1,4 @@
 -- Past the beginning of a row the answer is no; there, what the code says.
-use borrow.Author.Rules.{rules}
 use borrow.Author.Tests.{eq-eqb, ne_eqb}
 use mathlib.Core.Path.{refl}
 use Rattle.judge.proofs.flags.begins_overall.Goals as goal

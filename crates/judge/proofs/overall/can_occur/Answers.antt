@@ -1,6 +1,5 @@
 -- What can suit the rule bound to the first time can occur.
 use Rattle.condition.proofs.Laws.{bound_can_occur}
-use borrow.Author.Rules.{rules}
 use Rattle.judge.proofs.overall.can_occur.Goals as goal
 
 pub returns : goal.returns

@@ -1,6 +1,5 @@
 -- By cases, as the definition has them.
 use Rattle.judge.proofs.Occurrences.{earlier_first, earlier_second}
-use borrow.Author.Rules.{rules}
 use Rattle.judge.proofs.overall.earlier.Goals as goal
 
 pub returns-then-j-i : goal.returns-then-j-i

@@ -1,14 +1,13 @@
 -- No event passed so far is an occurrence.
 use mathlib.Core.Path.{◌≡◌, sym, ap, ◌∙◌}
 use mathlib.Core.Bool.{false}
-use mathlib.Core.Logic.{⊎_elim}
-use Prim.Native.Nat.{suc, ◌-◌, ◌≤◌, zero-le}
+use Prim.Native.Nat.{suc, zero-le}
 use native.Mathlib.Omega.{arith}
 use native.Mathlib.Numerals.{add-one}
 use lib.ListN.{length, take}
 use Rattle.declare.specs.Limits.{most_events}
 use Rattle.declare.specs.Lists.{first_up_to}
-use Rattle.declare.specs.Events.{no_event, first_time}
+use Rattle.declare.specs.Events.{no_event}
 use Rattle.declare.specs.Verdicts.{occurs_at}
 use Rattle.judge.proofs.Occurrences.{first_begin, occurs_other, occurs_same, occurs_here, not_yet}
 use borrow.Author.Rules.{rules}
@@ -47,9 +46,9 @@ passed c =
     let l = c.loop-p in
     let a = c.args in
     elim c.if-events-p.branch [
-      then-events-p+else-meets_inside w ↦
+      | then-events-p+else-meets_inside w ↦
           occurs_same a.rule a.activity a.n a.events l.invariant.1 l.p (omega arith) l.invariant.2 (eq-eqb _ _ w.if-events-p.true) ∙ sym w.meets_inside.ensures ∙ w.if-meets_inside.false
-    | else-events-p w ↦ occurs_other a.rule a.activity a.n a.events l.invariant.1 l.p (omega arith) (ne_eqb _ _ w.if-events-p.false)
+      | else-events-p w ↦ occurs_other a.rule a.activity a.n a.events l.invariant.1 l.p (omega arith) (ne_eqb _ _ w.if-events-p.false)
     ]
 
 pub loop-p-preserved : goal.loop-p-preserved

@@ -3,8 +3,7 @@
 use mathlib.Core.Path.{◌≡◌, sym, subst, ap, ap₂, ◌∙◌}
 use mathlib.Core.Bool.{not, ◌&&◌}
 use mathlib.Core.List.{List}
-use mathlib.Core.Logic.{⊎_elim}
-use Prim.Native.Nat.{ℕ, ◌+◌, ◌-◌, ◌≤◌, ◌<◌}
+use Prim.Native.Nat.{ℕ, ◌+◌, ◌<◌}
 use native.Mathlib.Omega.{arith}
 use borrow.Author.Rules.{rules}
 use borrow.Author.Tests.{not-true}
@@ -42,10 +41,10 @@ loop-k-preserved c =
     let decided = c.is_decided.ensures in (
       omega arith,
       elim c.if-is_overall-is_decided.branch [
-        then-is_overall-is_decided w ↦
+        | then-is_overall-is_decided w ↦
             let p = and₂ w.if-is_overall-is_decided.true in
             subst (λ (u : List Cell). Swept f a.cells u (l.k + 1)) (sym w.cells-is) (swept_again l.invariant.1 idle_cell (omega arith) (cell_judged a.table a.running _ a.horizon l.k _ low (sym of_cycle ∙ p.0) (sym decided ∙ not-true _ p.1) w.judge_cycle-next.ensures))
-      | else-is_overall-is_decided w ↦
+        | else-is_overall-is_decided w ↦
             subst (λ (u : List Cell). Swept f a.cells u (l.k + 1)) (sym w.cells-is) (swept_kept l.invariant.1 idle_cell (omega arith) (cell_stays a.table a.running _ a.horizon l.k _ low (ap₂ (λ x y. x && not y) (sym of_cycle) (sym decided) ∙ w.if-is_overall-is_decided.false)))
       ],
     )

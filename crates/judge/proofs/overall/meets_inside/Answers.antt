@@ -1,10 +1,8 @@
 -- The window, then the condition, which is met where its tests pass.
 use mathlib.Core.Path.{sym, ◌∙◌}
 use mathlib.Core.Bool.{and-true, and-false}
-use borrow.Author.Tests.{not-true, not-false}
 use Rattle.declare.specs.Conditions.{met}
 use Rattle.condition.proofs.Laws.{met_bound}
-use borrow.Author.Rules.{rules}
 use Rattle.judge.proofs.overall.meets_inside.Goals as goal
 
 pub returns-then-not-within : goal.returns-then-not-within

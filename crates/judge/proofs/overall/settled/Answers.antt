@@ -1,5 +1,4 @@
 -- Arm by arm.
-use borrow.Author.Rules.{rules}
 use Rattle.judge.proofs.overall.settled.Goals as goal
 
 pub returns-in-Choice : goal.returns-in-Choice

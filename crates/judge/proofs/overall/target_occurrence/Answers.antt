@@ -3,7 +3,6 @@ use mathlib.Core.Path.{refl, sym, ◌∙◌, ap}
 use Prim.Native.Nat.{zero-le}
 use Rattle.declare.specs.Overall.{counts_target}
 use Rattle.judge.specs.Occurrences.{target_occurrence}
-use borrow.Author.Rules.{rules}
 use Rattle.judge.proofs.overall.target_occurrence.Goals as goal
 
 pub returns-then-counts_target : goal.returns-then-counts_target

@@ -1,11 +1,7 @@
-use borrow.Author.Rules.{rules}
-use mathlib.Core.Path.{◌≡◌, sym, ◌∙◌}
+use mathlib.Core.Path.{◌≡◌}
 use Prim.Native.Nat.{◌-◌, ◌≤◌}
-use native.Mathlib.Omega.{arith}
 use Rattle.declare.specs.Lists.{first_past}
 use Rattle.judge.specs.Columns.{suits_in}
-use Rattle.judge.proofs.ByColumn.{suits_next}
-use Rattle.judge.proofs.Spans.{first_begin, first_again, first_found, first_end}
 use Rattle.judge.proofs.scan.first_suiting.Given as goal
 
 abbrev pub invariant-loop-q : goal.invariant-loop-q

@@ -1,9 +1,6 @@
 -- No position passed so far, from p down, is an activation.
-use borrow.Author.Rules.{rules}
-use mathlib.Core.Path.{◌≡◌, refl, sym, ◌∙◌}
-use Prim.Native.Nat.{◌≤◌}
+use mathlib.Core.Path.{refl, sym, ◌∙◌}
 use native.Mathlib.Omega.{arith}
-use Rattle.declare.specs.Lists.{last_up_to}
 use Rattle.judge.specs.Flags.{flag_at}
 use Rattle.judge.proofs.Spans.{last_again, last_found, last_end}
 use Rattle.judge.proofs.scan.last_activation.Goals as goal

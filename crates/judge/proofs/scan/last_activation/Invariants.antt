@@ -1,10 +1,7 @@
-use borrow.Author.Rules.{rules}
-use mathlib.Core.Path.{◌≡◌, refl, sym, ◌∙◌}
+use mathlib.Core.Path.{◌≡◌}
 use Prim.Native.Nat.{◌≤◌}
-use native.Mathlib.Omega.{arith}
 use Rattle.declare.specs.Lists.{last_up_to}
 use Rattle.judge.specs.Flags.{flag_at}
-use Rattle.judge.proofs.Spans.{last_again, last_found, last_end}
 use Rattle.judge.proofs.scan.last_activation.Given as goal
 
 abbrev pub invariant-loop-q : goal.invariant-loop-q

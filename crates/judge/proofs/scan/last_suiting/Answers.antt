@@ -1,14 +1,12 @@
 -- No event passed so far, from stop down, suits.
-use borrow.Author.Rules.{rules}
-use mathlib.Core.Path.{◌≡◌, refl, sym, ◌∙◌}
+use mathlib.Core.Path.{refl, sym, ◌∙◌}
 use mathlib.Core.Bool.{Bool}
-use Prim.Native.Nat.{ℕ, ◌≤◌}
+use Prim.Native.Nat.{ℕ}
 use native.Mathlib.Omega.{arith}
 use borrow.Author.Tests.{lt-ltb}
-use Rattle.declare.specs.Lists.{last_up_to}
 use Rattle.declare.proofs.Booleans.{both}
 use Rattle.declare.proofs.Positions.{not_past, not_passing}
-use Rattle.judge.specs.Columns.{suits_in, suits_past}
+use Rattle.judge.specs.Columns.{suits_in}
 use Rattle.judge.proofs.Spans.{last_again, last_found, last_end}
 use Rattle.judge.proofs.scan.last_suiting.Goals as goal
 use Rattle.judge.proofs.scan.last_suiting.Goals.{Start}

@@ -1,5 +1,4 @@
 -- What is found at i or before is the nearest; if nothing is, the first after it is.
-use borrow.Author.Rules.{rules}
 use mathlib.Core.Path.{sym, ◌∙◌}
 use native.Mathlib.Omega.{arith}
 use Rattle.declare.proofs.Nearest.{nearest_up_to, nearest_past}

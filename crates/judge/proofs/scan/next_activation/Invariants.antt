@@ -1,12 +1,8 @@
-use borrow.Author.Rules.{rules}
-use mathlib.Core.Path.{◌≡◌, ◌∙◌}
+use mathlib.Core.Path.{◌≡◌}
 use Prim.Native.Nat.{◌-◌, ◌≤◌}
-use native.Mathlib.Omega.{arith}
 use lib.ListN.{length}
 use Rattle.declare.specs.Lists.{first_past}
 use Rattle.judge.specs.Flags.{flag_at}
-use Rattle.judge.proofs.Spans.{first_begin, first_again, next_found, next_end}
-use Rattle.judge.proofs.Activations.{flag_at_lem}
 use Rattle.judge.proofs.scan.next_activation.Given as goal
 
 abbrev pub invariant-loop-k : goal.invariant-loop-k

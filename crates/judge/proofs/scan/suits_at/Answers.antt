@@ -7,7 +7,6 @@ use Rattle.condition.specs.Bound.{test_list, suits_bound}
 use Rattle.condition.proofs.Four.{passed, failed}
 use Rattle.judge.specs.Columns.{event_in}
 use Rattle.judge.proofs.ByColumn.{all_pass_in}
-use borrow.Author.Rules.{rules}
 use Rattle.judge.proofs.scan.suits_at.Goals as goal
 
 pub returns-then-activities-q : goal.returns-then-activities-q

@@ -3,7 +3,6 @@ use mathlib.Core.Path.{◌≡◌}
 use Prim.Native.Nat.{◌+◌, ◌-◌}
 use native.Mathlib.Omega.{arith}
 use Rattle.judge.specs.Spans.{span_of}
-use borrow.Author.Rules.{rules}
 use Rattle.judge.proofs.span.span_of.Goals as goal
 
 pub returns-in-Anywhere : goal.returns-in-Anywhere

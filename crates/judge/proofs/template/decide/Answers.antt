@@ -1,7 +1,6 @@
 -- By the polarity, and by whether there is a target.
 use Rattle.declare.specs.Verdicts.{decided}
 use Rattle.judge.proofs.Codes.{some_fulfils, some_violates}
-use borrow.Author.Rules.{rules}
 use Rattle.judge.proofs.template.decide.Goals as goal
 
 pub returns-then-target-eq0 : goal.returns-then-target-eq0

@@ -5,7 +5,6 @@ use Prim.Native.Nat.{◌≤◌}
 use Rattle.declare.specs.Limits.{first_overall}
 use Rattle.declare.specs.Templates.{templates, template_of}
 use Rattle.judge.proofs.Codes.{past, no_code}
-use borrow.Author.Rules.{rules}
 use Rattle.judge.proofs.template.template_of.Goals as goal
 
 pub returns-in-2 : goal.returns-in-2

@@ -2,7 +2,6 @@
 use mathlib.Core.Bool.{and-true, and_assoc}
 use Rattle.declare.specs.Lists.{all}
 use Rattle.declare.specs.Events.{readings_in_range, well_formed}
-use borrow.Author.Rules.{rules}
 use Rattle.limits.proofs.event.well_formed.Goals as goal
 
 pub returns : goal.returns

@@ -1,8 +1,6 @@
 -- A rule that is not about the cycle fits; of another, both parts of the definition.
 use mathlib.Core.Path.{sym, ◌∙◌}
-use borrow.Author.Tests.{not-true, not-false}
 use Rattle.declare.specs.Rules.{fits_template}
-use borrow.Author.Rules.{rules}
 use Rattle.limits.proofs.rule.fits_template.Goals as goal
 
 pub returns-then-not-is_overall : goal.returns-then-not-is_overall

@@ -1,6 +1,5 @@
 -- Both parts of the definition.
 use Rattle.declare.specs.Rules.{valid_comparison}
-use borrow.Author.Rules.{rules}
 use Rattle.limits.proofs.rule.valid_comparison.Goals as goal
 
 pub returns : goal.returns

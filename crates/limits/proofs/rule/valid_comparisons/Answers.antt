@@ -2,7 +2,6 @@
 use Rattle.declare.specs.Conditions.{comparisons_of}
 use Rattle.declare.specs.Rules.{valid_comparison}
 use Rattle.limits.proofs.Conditions.{all_four}
-use borrow.Author.Rules.{rules}
 use Rattle.limits.proofs.rule.valid_comparisons.Goals as goal
 
 pub returns : goal.returns

@@ -4,7 +4,6 @@ use native.Mathlib.Omega.{arith}
 use Rattle.declare.specs.Lists.{all}
 use Rattle.declare.specs.Conditions.{comparisons_of}
 use Rattle.declare.specs.Rules.{valid_condition}
-use borrow.Author.Rules.{rules}
 use Rattle.limits.proofs.rule.valid_condition.Goals as goal
 
 pub returns-then-c-lt1 : goal.returns-then-c-lt1

@@ -1,6 +1,5 @@
 -- No end, or a first difference outside that is above the start.
 use Rattle.declare.specs.Rules.{valid_end}
-use borrow.Author.Rules.{rules}
 use Rattle.limits.proofs.rule.valid_end.Goals as goal
 
 pub returns-in-Never : goal.returns-in-Never

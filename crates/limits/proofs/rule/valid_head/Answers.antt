@@ -1,6 +1,5 @@
 -- The four parts of the definition.
 use Rattle.declare.specs.Rules.{is_template, valid_head}
-use borrow.Author.Rules.{rules}
 use Rattle.limits.proofs.rule.valid_head.Goals as goal
 
 pub returns : goal.returns

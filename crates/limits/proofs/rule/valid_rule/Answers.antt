@@ -1,9 +1,7 @@
 -- The template is asked first; then the other three parts of the definition.
 use mathlib.Core.Path.{sym, ◌∙◌}
 use mathlib.Core.Bool.{true, false, ◌&&◌, and-true, and-false}
-use borrow.Author.Tests.{not-true, not-false}
 use Rattle.declare.specs.Rules.{valid_condition, valid_head, valid_rule}
-use borrow.Author.Rules.{rules}
 use Rattle.limits.proofs.rule.valid_rule.Goals as goal
 
 pub returns-then-not-fits_template : goal.returns-then-not-fits_template

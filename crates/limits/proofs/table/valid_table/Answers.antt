@@ -1,9 +1,9 @@
 -- The loop has tested the rules passed; the definition tests the list of them.
 use mathlib.Core.Path.{◌≡◌, ap, ◌∙◌}
-use Prim.Native.Nat.{◌≤◌, ◌-◌}
+use Prim.Native.Nat.{◌≤◌}
 use native.Mathlib.Omega.{arith}
 use borrow.Author.Tests.{le-leb, lt-leb}
-use lib.ListN.{length, get_or, length-map}
+use lib.ListN.{length}
 use Rattle.declare.specs.Lists.{all_below}
 use Rattle.declare.specs.Rules.{valid_rule, no_comparison, no_condition, no_rule, rules_of, valid_table}
 use Rattle.declare.proofs.Sweeps.{all_none, all_again}

@@ -1,13 +1,8 @@
-use mathlib.Core.Path.{◌≡◌, ap, ◌∙◌}
+use mathlib.Core.Path.{◌≡◌}
 use Prim.Native.Nat.{◌≤◌, ◌-◌}
-use native.Mathlib.Omega.{arith}
-use borrow.Author.Tests.{le-leb, lt-leb}
-use lib.ListN.{length, get_or, length-map}
+use lib.ListN.{get_or}
 use Rattle.declare.specs.Lists.{all_below}
-use Rattle.declare.specs.Rules.{valid_rule, no_comparison, no_condition, no_rule, rules_of, valid_table}
-use Rattle.declare.proofs.Sweeps.{all_none, all_again}
-use Rattle.declare.proofs.Lists.{all_taken}
-use borrow.Author.Rules.{rules}
+use Rattle.declare.specs.Rules.{valid_rule, no_rule}
 use Rattle.limits.proofs.table.valid_table.Given as goal
 
 abbrev pub invariant-loop-k : goal.invariant-loop-k

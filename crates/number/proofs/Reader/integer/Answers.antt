@@ -1,6 +1,5 @@
 -- `number::Reader::integer` goes by the cases of `integer_in`.
 use Rattle.number.specs.Reader.{integer_in}
-use borrow.Author.Rules.{rules}
 use Rattle.number.proofs.Reader.integer.Goals as goal
 
 pub returns-in-Empty : goal.returns-in-Empty

@@ -1,6 +1,5 @@
 -- `number::Reader::natural` goes by the cases of `natural_in`.
 use Rattle.number.specs.Reader.{natural_in}
-use borrow.Author.Rules.{rules}
 use Rattle.number.proofs.Reader.natural.Goals as goal
 
 pub returns-in-Empty : goal.returns-in-Empty

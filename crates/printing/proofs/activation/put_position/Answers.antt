@@ -4,7 +4,6 @@ use Rattle.buffer.proofs.Lines.{puts_single}
 use Rattle.line.specs.Texts.{written_text}
 use Rattle.printing.specs.Lines.{line_fields}
 use Rattle.printing.specs.Report.{position_lines}
-use borrow.Author.Rules.{rules}
 use Rattle.printing.proofs.activation.put_position.Goals as goal
 
 pub returns-in-Idle : goal.returns-in-Idle

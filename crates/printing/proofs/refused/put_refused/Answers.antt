@@ -2,7 +2,6 @@
 use Rattle.buffer.proofs.Puts.{puts_then}
 use Rattle.buffer.proofs.Lines.{puts_line}
 use Rattle.printing.specs.Lines.{line_fields}
-use borrow.Author.Rules.{rules}
 use Rattle.printing.proofs.refused.put_refused.Goals as goal
 
 pub returns : goal.returns

@@ -1,6 +1,5 @@
 -- By the text.
 use Rattle.printing.specs.Report.{word_of}
-use borrow.Author.Rules.{rules}
 use Rattle.printing.proofs.refused.put_word.Goals as goal
 
 pub returns-in-Rules : goal.returns-in-Rules

@@ -5,7 +5,6 @@ use lib.Seq.{length-take-le}
 use Rattle.buffer.proofs.Puts.{puts_within}
 use Rattle.buffer.proofs.Writes.{hands_on}
 use Rattle.printing.proofs.Room.{refused_within}
-use borrow.Author.Rules.{rules}
 use Rattle.printing.proofs.refused.write_refused.Goals as goal
 
 pub slice_bounds-bytes-end : goal.slice_bounds-bytes-end

@@ -1,16 +1,12 @@
 -- The loop has put the lines of the positions passed, and has their totals, if it began with those
 -- of position 0.
 use mathlib.Core.Path.{◌≡◌, refl, ap, ◌∙◌}
-use Prim.Native.Nat.{◌-◌, ◌≤◌}
 use native.Mathlib.Omega.{arith}
-use Rattle.declare.specs.declared.Standing.{Standing}
 use Rattle.standings.specs.Places.{standing_from, with_zero}
 use Rattle.standings.specs.Totals.{totals_by, with_standing}
 use Rattle.standings.proofs.Counts.{totals_first, next_place, totals_again}
-use Rattle.buffer.proofs.Puts.{puts_length}
 use Rattle.printing.specs.Report.{event_lines}
 use Rattle.printing.proofs.Lines.{PutLines, no_position, next_position, then_totals}
-use borrow.Author.Rules.{rules}
 use Rattle.printing.proofs.rules.put_events.Goals as goal
 use Rattle.printing.proofs.rules.put_events.Goals.{At-loop-p}
 

@@ -1,14 +1,10 @@
-use mathlib.Core.Path.{◌≡◌, refl, ap, ◌∙◌}
+use mathlib.Core.Path.{◌≡◌}
 use Prim.Native.Nat.{◌-◌, ◌≤◌}
-use native.Mathlib.Omega.{arith}
 use Rattle.declare.specs.declared.Standing.{Standing}
 use Rattle.standings.specs.Places.{standing_from, with_zero}
-use Rattle.standings.specs.Totals.{totals_by, with_standing}
-use Rattle.standings.proofs.Counts.{totals_first, next_place, totals_again}
-use Rattle.buffer.proofs.Puts.{puts_length}
+use Rattle.standings.specs.Totals.{totals_by}
 use Rattle.printing.specs.Report.{event_lines}
-use Rattle.printing.proofs.Lines.{PutLines, no_position, next_position, then_totals}
-use borrow.Author.Rules.{rules}
+use Rattle.printing.proofs.Lines.{PutLines}
 use Rattle.printing.proofs.rules.put_events.Given as goal
 
 abbrev pub invariant-loop-p : goal.invariant-loop-p

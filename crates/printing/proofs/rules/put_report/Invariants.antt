@@ -1,14 +1,8 @@
-use mathlib.Core.Path.{◌≡◌, refl, ap}
-use Prim.Native.Nat.{ℕ, ◌-◌, ◌≤◌}
-use native.Mathlib.Omega.{arith}
-use Rattle.standings.specs.Places.{with_zero}
+use mathlib.Core.Path.{◌≡◌}
+use Prim.Native.Nat.{◌-◌, ◌≤◌}
 use Rattle.run.specs.Records.{standing_at}
-use Rattle.line.specs.Texts.{written_text}
-use Rattle.buffer.proofs.Puts.{puts_length, puts_as}
-use Rattle.printing.specs.Lines.{line_fields}
-use Rattle.printing.specs.Report.{lines_up_to, rule_lines, report_lines, report_of}
-use Rattle.printing.proofs.Lines.{PutLines, put_none, put_next, zero_first, row_lines}
-use borrow.Author.Rules.{rules}
+use Rattle.printing.specs.Report.{lines_up_to, rule_lines}
+use Rattle.printing.proofs.Lines.{PutLines}
 use Rattle.printing.proofs.rules.put_report.Given as goal
 
 abbrev pub invariant-loop-k : goal.invariant-loop-k

@@ -3,7 +3,6 @@ use Rattle.buffer.proofs.Puts.{puts_then}
 use Rattle.buffer.proofs.Lines.{puts_line}
 use Rattle.printing.specs.Lines.{line_fields}
 use Rattle.printing.specs.Report.{total_of}
-use borrow.Author.Rules.{rules}
 use Rattle.printing.proofs.rules.put_total.Goals as goal
 
 pub returns : goal.returns

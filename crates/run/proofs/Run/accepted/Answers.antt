@@ -3,7 +3,6 @@ use mathlib.Core.Path.{ap, ap₂, ◌∙◌}
 use mathlib.Core.Bool.{true}
 use mathlib.Core.List.{List}
 use Prim.Native.Nat.{ℕ}
-use borrow.Author.Rules.{rules}
 use Rattle.standings.specs.declared.Cell.{Cell}
 use Rattle.judge.specs.Cells.{judged_cells, judged_overall}
 use Rattle.run.specs.declared.Run.{Run}

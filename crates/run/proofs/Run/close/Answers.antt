@@ -4,7 +4,6 @@ use mathlib.Core.Bool.{true, not}
 use mathlib.Core.List.{List}
 use Prim.Native.Nat.{ℕ, min}
 use native.Mathlib.Omega.{arith}
-use borrow.Author.Tests.{not-true, not-false}
 use Rattle.declare.specs.Limits.{most_events}
 use Rattle.standings.specs.declared.Cell.{Cell}
 use Rattle.standings.specs.Totals.{row_totals}
@@ -19,7 +18,6 @@ use Rattle.run.proofs.Guards.{refuses, accepts}
 use Rattle.run.proofs.Closing.{closes_overall}
 use Rattle.run.proofs.Stored.{counted_by_lem}
 use Rattle.run.proofs.Validity.{past_idle}
-use borrow.Author.Rules.{rules}
 use Rattle.run.proofs.Run.close.Goals as goal
 use Rattle.run.proofs.Run.close.Goals.{Else-not-valid_run}
 

@@ -13,7 +13,6 @@ use Rattle.standings.specs.Places.{with_zero}
 use Rattle.run.specs.Answers.{standing_answer}
 use Rattle.run.specs.Records.{standing_at, valid_run}
 use Rattle.run.specs.Queries.{one_of, is_position, standing_of}
-use borrow.Author.Rules.{rules}
 use Rattle.run.proofs.Run.standing.Goals as goal
 use Rattle.run.proofs.Run.standing.Goals.{Else-not-found, Else-not-valid_run}
 

@@ -1,13 +1,11 @@
 -- An invalid table, or the run for the table.
 use mathlib.Core.Path.{◌≡◌, refl, sym, ◌∙◌}
 use mathlib.Core.Bool.{true, false}
-use borrow.Author.Tests.{not-true, not-false}
 use Rattle.declare.specs.Rules.{valid_table}
 use Rattle.declare.specs.Refusals.{number_of}
 use Rattle.declare.specs.Answers.{◌>>◌, require, after_call}
 use Rattle.run.specs.Answers.{run_answer}
 use Rattle.run.specs.Start.{start_of, started}
-use borrow.Author.Rules.{rules}
 use Rattle.run.proofs.Run.start.Goals as goal
 use Rattle.run.proofs.Run.start.Goals.{Else-not-valid_table, Then-not-valid_table}
 

@@ -4,8 +4,8 @@ use mathlib.Core.Bool.{true}
 use Prim.Native.Nat.{◌≤◌}
 use native.Mathlib.Omega.{arith}
 use borrow.Author.Rules.{rules}
-use borrow.Author.Tests.{not-true, not-false, lt-leb, le-leb, lt-ltb, le-ltb}
-use lib.ListN.{length, length-map}
+use borrow.Author.Tests.{lt-leb, le-leb, lt-ltb, le-ltb}
+use lib.ListN.{length}
 use Rattle.declare.specs.Events.{well_formed}
 use Rattle.declare.specs.Limits.{most_events}
 use Rattle.declare.specs.Refusals.{number_of}

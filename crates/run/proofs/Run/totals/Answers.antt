@@ -3,7 +3,7 @@ use mathlib.Core.Path.{◌≡◌, sym, ◌∙◌}
 use mathlib.Core.Bool.{true}
 use Prim.Native.Nat.{◌≤◌}
 use native.Mathlib.Omega.{arith}
-use borrow.Author.Tests.{leb-true, not-true, not-false}
+use borrow.Author.Tests.{leb-true}
 use lib.Dec.{leb}
 use Rattle.declare.specs.Limits.{most_rules}
 use Rattle.declare.specs.Refusals.{number_of}
@@ -13,7 +13,6 @@ use Rattle.run.specs.Answers.{totals_answer}
 use Rattle.run.specs.Records.{valid_run}
 use Rattle.run.specs.Queries.{one_of, totals_of}
 use Rattle.run.proofs.Bounds.{valid_parts}
-use borrow.Author.Rules.{rules}
 use Rattle.run.proofs.Run.totals.Goals as goal
 use Rattle.run.proofs.Run.totals.Goals.{Else-not-one_of, Else-not-valid_run}
 

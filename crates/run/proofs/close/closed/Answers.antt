@@ -1,7 +1,5 @@
 -- The template's polarity, without a target; what is not open stays.
 use mathlib.Core.Path.{sym, ◌∙◌}
-use borrow.Author.Rules.{rules}
-use borrow.Author.Tests.{not-true, not-false}
 use Rattle.run.proofs.close.closed.Goals as goal
 
 pub returns-then-not-is_open : goal.returns-then-not-is_open

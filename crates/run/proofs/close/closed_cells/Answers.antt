@@ -3,7 +3,7 @@
 use mathlib.Core.Path.{◌≡◌, refl, sym, ap, ◌∙◌}
 use mathlib.Core.Bool.{Bool, true, false, true≢false}
 use mathlib.Core.List.{List, []}
-use Prim.Native.Nat.{ℕ, ◌*◌, ◌-◌, ◌%◌, ◌≤◌, ◌<◌}
+use Prim.Native.Nat.{ℕ, ◌*◌, ◌%◌, ◌<◌}
 use native.Mathlib.Omega.{arith}
 use borrow.Author.Rules.{rules}
 use borrow.Author.Tests.{ltb-true, ltb-false}
@@ -17,13 +17,13 @@ use Rattle.declare.specs.Limits.{most_rules, most_events}
 use Rattle.declare.specs.Rules.{no_comparison, no_condition, no_rule}
 use Rattle.declare.specs.Standings.{is_idle}
 use Rattle.declare.proofs.Carried.{only_idle}
-use Rattle.declare.proofs.Sweeps.{Swept, swept_none, swept_at, swept_again, swept_kept, swept_skip, swept_all}
+use Rattle.declare.proofs.Sweeps.{swept_none, swept_at, swept_again, swept_kept, swept_skip, swept_all}
 use Rattle.standings.specs.declared.Cell.{Cell}
 use Rattle.standings.specs.declared.totals.Totals.{Totals}
-use Rattle.standings.specs.Places.{places, idle_cell, changed_cell, changed}
+use Rattle.standings.specs.Places.{places, idle_cell, changed}
 use Rattle.standings.proofs.Places.{rules_rest}
-use Rattle.standings.proofs.Counting.{Counting, counting_none, counting_idle, counting_set, counting_all}
-use Rattle.run.specs.Close.{closed_at, closed_cells, IdlePast}
+use Rattle.standings.proofs.Counting.{counting_none, counting_idle, counting_set, counting_all}
+use Rattle.run.specs.Close.{closed_cells, IdlePast}
 use Rattle.run.proofs.Closing.{cell_unused, cell_idle, cell_closed}
 use Rattle.run.proofs.close.closed_cells.Invariants.{Closed}
 use Rattle.run.proofs.close.closed_cells.Goals as goal

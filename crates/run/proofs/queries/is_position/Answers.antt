@@ -8,7 +8,6 @@ use lib.Dec.{leb}
 use Rattle.declare.specs.declared.Table.{Table}
 use Rattle.run.specs.Queries.{is_position}
 use Rattle.run.proofs.Answered.{position_zero}
-use borrow.Author.Rules.{rules}
 use Rattle.run.proofs.queries.is_position.Goals as goal
 
 at_event : (t : Table) (n k i : ℕ) → (i ≡ 0 → ⊥) → leb i n ≡ is_position t n k i

@@ -2,9 +2,8 @@
 use mathlib.Core.Path.{◌≡◌, sym, ap, ◌∙◌}
 use mathlib.Core.Bool.{Bool, true, false, false≢true}
 use mathlib.Core.List.{List}
-use Prim.Native.Nat.{ℕ, ◌≤◌, ◌<◌, ◌-◌, ◌+◌, ◌*◌, ◌/◌, ◌%◌}
+use Prim.Native.Nat.{ℕ, ◌≤◌, ◌<◌, ◌+◌, ◌*◌, ◌/◌, ◌%◌}
 use native.Mathlib.Omega.{arith}
-use borrow.Author.Tests.{not-true, not-false}
 use lib.ListN.{length, get_or}
 use Rattle.declare.specs.declared.Standing.{Standing}
 use Rattle.declare.specs.declared.Table.{Table}
@@ -17,10 +16,10 @@ use Rattle.declare.proofs.Carried.{only_idle}
 use Rattle.declare.proofs.Sweeps.{all_none, all_again}
 use Rattle.standings.specs.declared.Cell.{Cell}
 use Rattle.standings.specs.Places.{places, idle_cell}
-use Rattle.standings.proofs.Counting.{Counting, counting_none, counting_idle, counting_more, counting_all}
+use Rattle.standings.proofs.Counting.{counting_none, counting_idle, counting_more, counting_all}
 use Rattle.run.specs.Records.{events_judged, EventsJudged, valid_standings}
 use Rattle.declare.proofs.Lists.{all_each}
-use Rattle.run.proofs.Places.{stands_at, idle_anywhere}
+use Rattle.run.proofs.Places.{idle_anywhere}
 use Rattle.run.proofs.Checks.{judged_most, stands_judged, flat_standings}
 use borrow.Author.Rules.{rules}
 use Rattle.run.proofs.record.checked_rows.Invariants.{valid}

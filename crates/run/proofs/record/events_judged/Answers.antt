@@ -2,11 +2,10 @@
 -- was.
 use mathlib.Core.Path.{sym, subst, ◌∙◌}
 use mathlib.Core.List.{List}
-use Prim.Native.Nat.{ℕ, ◌≤◌, ◌<◌, ◌-◌, ◌+◌}
+use Prim.Native.Nat.{ℕ, ◌<◌, ◌+◌}
 use native.Mathlib.Omega.{arith}
 use Rattle.declare.specs.Rules.{no_comparison, no_condition, no_rule}
 use Rattle.run.proofs.Checks.{Counted, counted_none, counted_zero, counted_kept}
-use borrow.Author.Rules.{rules}
 use Rattle.run.proofs.record.events_judged.Goals as goal
 use Rattle.run.proofs.record.events_judged.Goals.{then-is_overall, else-is_overall}
 
@@ -22,8 +21,8 @@ loop-k-preserved c =
     let says = sym c.is_overall.ensures in (
       omega arith,
       elim c.if-is_overall.branch [
-        then-is_overall w ↦ subst (λ (u : List ℕ). Counted a.table a.count u (l.k + 1)) (sym w.counts-is) (counted_zero a.table a.count l.invariant.1 low (says ∙ w.if-is_overall.true))
-      | else-is_overall w ↦ subst (λ (u : List ℕ). Counted a.table a.count u (l.k + 1)) (sym w.counts-is) (counted_kept a.table a.count l.invariant.1 low (says ∙ w.if-is_overall.false))
+        | then-is_overall w ↦ subst (λ (u : List ℕ). Counted a.table a.count u (l.k + 1)) (sym w.counts-is) (counted_zero a.table a.count l.invariant.1 low (says ∙ w.if-is_overall.true))
+        | else-is_overall w ↦ subst (λ (u : List ℕ). Counted a.table a.count u (l.k + 1)) (sym w.counts-is) (counted_kept a.table a.count l.invariant.1 low (says ∙ w.if-is_overall.false))
       ],
     )
 

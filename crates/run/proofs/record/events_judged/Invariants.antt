@@ -1,11 +1,5 @@
-use mathlib.Core.Path.{sym, subst, ◌∙◌}
-use mathlib.Core.List.{List}
-use mathlib.Core.Logic.{⊎_elim}
-use Prim.Native.Nat.{ℕ, ◌≤◌, ◌<◌, ◌-◌, ◌+◌}
-use native.Mathlib.Omega.{arith}
-use Rattle.declare.specs.Rules.{no_comparison, no_condition, no_rule}
-use Rattle.run.proofs.Checks.{Counted, counted_none, counted_zero, counted_kept}
-use borrow.Author.Rules.{rules}
+use Prim.Native.Nat.{◌≤◌, ◌-◌}
+use Rattle.run.proofs.Checks.{Counted}
 use Rattle.run.proofs.record.events_judged.Given as goal
 
 abbrev pub invariant-loop-k : goal.invariant-loop-k

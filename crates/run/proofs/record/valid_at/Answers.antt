@@ -4,7 +4,6 @@ use Prim.Native.Nat.{◌+◌, ◌≤◌, ◌<◌}
 use native.Mathlib.Omega.{arith}
 use borrow.Author.Tests.{le-leb, lt-leb}
 use Rattle.run.proofs.Places.{idle_anywhere}
-use borrow.Author.Rules.{rules}
 use Rattle.run.proofs.record.valid_at.Goals as goal
 
 pub returns-then-is_idle : goal.returns-then-is_idle

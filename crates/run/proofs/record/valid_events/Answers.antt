@@ -1,12 +1,12 @@
 -- The loop has followed the events passed: they are well-formed, and their times have not fallen.
 use mathlib.Core.Path.{◌≡◌}
-use Prim.Native.Nat.{◌≤◌, ◌-◌}
+use Prim.Native.Nat.{◌≤◌}
 use native.Mathlib.Omega.{arith}
 use borrow.Author.Tests.{le-leb, lt-leb}
 use lib.ListN.{length}
 use Rattle.declare.specs.Events.{no_event}
 use Rattle.run.specs.Records.{valid_events}
-use Rattle.run.proofs.Checks.{Followed, followed_none, followed_again}
+use Rattle.run.proofs.Checks.{followed_none, followed_again}
 use borrow.Author.Rules.{rules}
 use Rattle.run.proofs.record.valid_events.Goals as goal
 

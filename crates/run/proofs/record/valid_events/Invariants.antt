@@ -1,12 +1,7 @@
 use mathlib.Core.Path.{◌≡◌}
 use Prim.Native.Nat.{◌≤◌, ◌-◌}
-use native.Mathlib.Omega.{arith}
-use borrow.Author.Tests.{le-leb, lt-leb}
 use lib.ListN.{length}
-use Rattle.declare.specs.Events.{no_event}
-use Rattle.run.specs.Records.{valid_events}
-use Rattle.run.proofs.Checks.{Followed, followed_none, followed_again}
-use borrow.Author.Rules.{rules}
+use Rattle.run.proofs.Checks.{Followed}
 use Rattle.run.proofs.record.valid_events.Given as goal
 
 abbrev pub invariant-loop-p : goal.invariant-loop-p

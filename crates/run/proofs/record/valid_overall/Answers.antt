@@ -1,23 +1,22 @@
 -- No rule that was passed is invalid: one about the cycle was looked at, any other is not read.
 use mathlib.Core.Path.{◌≡◌, refl, sym, ap, ◌∙◌}
-use mathlib.Core.Bool.{Bool, true, false, not, ◌||◌}
+use mathlib.Core.Bool.{Bool, true, false, not}
 use mathlib.Core.List.{List}
-use Prim.Native.Nat.{ℕ, ◌≤◌, ◌<◌, ◌-◌, ◌+◌}
+use Prim.Native.Nat.{ℕ, ◌<◌}
 use native.Mathlib.Omega.{arith}
-use borrow.Author.Tests.{not-true, not-false}
+use borrow.Author.Tests.{not-false}
 use lib.ListN.{get_or}
 use Rattle.declare.specs.declared.Table.{Table}
 use Rattle.declare.specs.Lists.{all_below}
 use Rattle.declare.specs.Overall.{is_overall}
-use Rattle.declare.specs.Rules.{no_comparison, no_condition, no_rule, is_overall_rule}
+use Rattle.declare.specs.Rules.{no_comparison, no_condition, no_rule}
 use Rattle.declare.proofs.Booleans.{fails}
 use Rattle.declare.proofs.Sweeps.{all_none, all_again}
 use Rattle.declare.proofs.Lists.{all_each}
 use Rattle.standings.specs.declared.Cell.{Cell}
-use Rattle.standings.specs.Places.{idle_cell, overall_in}
+use Rattle.standings.specs.Places.{idle_cell}
 use Rattle.run.specs.Records.{valid_zero, valid_overall}
 use Rattle.standings.proofs.Places.{zero_check, zero_cell}
-use borrow.Author.Rules.{rules}
 use Rattle.run.proofs.record.valid_overall.Invariants.{valid}
 use Rattle.run.proofs.record.valid_overall.Goals as goal
 

@@ -1,7 +1,6 @@
 -- The five parts of the definition, in its order; the rows are checked and counted at once.
 use mathlib.Core.Path.{◌≡◌, sym, ap, ◌∙◌}
 use mathlib.Core.Bool.{true}
-use borrow.Author.Rules.{rules}
 use borrow.Author.Tests.{not-true, not-false}
 use Rattle.declare.specs.Rules.{valid_table}
 use Rattle.declare.proofs.Tables.{rules_within}

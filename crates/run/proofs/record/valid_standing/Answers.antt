@@ -1,5 +1,4 @@
 -- By the standing.
-use borrow.Author.Rules.{rules}
 use Rattle.run.proofs.record.valid_standing.Goals as goal
 
 pub returns-in-Fulfilled : goal.returns-in-Fulfilled

@@ -1,15 +1,9 @@
-use mathlib.Core.Path.{◌≡◌, sym, ap, ◌∙◌}
+use mathlib.Core.Path.{◌≡◌}
 use mathlib.Core.Bool.{Bool, true}
 use mathlib.Core.List.{List}
 use Prim.Native.Nat.{ℕ, ◌≤◌, ◌-◌}
-use native.Mathlib.Omega.{arith}
-use borrow.Author.Rules.{rules}
-use borrow.Author.Tests.{not-true, not-false}
 use lib.ListN.{get_or}
 use Rattle.declare.specs.Lists.{all_below}
-use Rattle.declare.proofs.Booleans.{fails}
-use Rattle.declare.proofs.Lists.{all_each}
-use Rattle.declare.proofs.Sweeps.{all_none, all_again}
 use Rattle.standings.specs.declared.totals.Totals.{Totals}
 use Rattle.standings.specs.Totals.{no_totals}
 use Rattle.run.specs.Records.{same_totals}

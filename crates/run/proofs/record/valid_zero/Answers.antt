@@ -1,5 +1,4 @@
 -- The two parts of the definition.
-use borrow.Author.Rules.{rules}
 use Rattle.run.proofs.record.valid_zero.Goals as goal
 
 pub returns : goal.returns

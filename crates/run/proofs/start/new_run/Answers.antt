@@ -2,7 +2,6 @@
 use mathlib.Core.Path.{◌≡◌, refl, sym, ap₂, ◌∙◌}
 use mathlib.Core.Bool.{true}
 use mathlib.Core.List.{[]}
-use borrow.Author.Rules.{rules}
 use Rattle.declare.specs.declared.Table.{Table}
 use Rattle.declare.specs.Slots.{padded, event_slots}
 use Rattle.standings.specs.Places.{idle_cells, idle_overall}

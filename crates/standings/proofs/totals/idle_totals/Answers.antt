@@ -1,5 +1,4 @@
 -- One slot a rule.
-use borrow.Author.Rules.{rules}
 use Rattle.standings.proofs.totals.idle_totals.Goals as goal
 
 pub returns : goal.returns

@@ -1,6 +1,5 @@
 -- By the standing: its counts are one more, the others stay.
 use Rattle.standings.specs.Totals.{with_standing}
-use borrow.Author.Rules.{rules}
 use Rattle.standings.proofs.totals.with_standing.Goals as goal
 
 pub returns-in-Idle : goal.returns-in-Idle

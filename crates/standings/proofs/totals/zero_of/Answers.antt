@@ -1,6 +1,5 @@
 -- By whether the code is of a rule about the cycle.
 use mathlib.Core.Path.{sym, ◌∙◌}
-use borrow.Author.Rules.{rules}
 use Rattle.standings.proofs.totals.zero_of.Goals as goal
 
 pub returns-then-is_overall : goal.returns-then-is_overall

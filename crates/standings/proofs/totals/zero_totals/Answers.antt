@@ -1,16 +1,12 @@
 -- The slots of the rules passed are begun; past the rules all stay as they are.
 use mathlib.Core.Path.{◌≡◌, ap₂, ◌∙◌}
-use mathlib.Core.Bool.{cond}
-use Prim.Native.Nat.{◌+◌, ◌-◌, ◌≤◌, ◌<◌}
+use Prim.Native.Nat.{◌<◌}
 use native.Mathlib.Omega.{arith}
-use borrow.Author.Rules.{rules}
 use borrow.Author.Tests.{lt-ltb, le-ltb}
-use lib.Dec.{ltb}
 use lib.ListN.{length}
 use Rattle.declare.specs.Limits.{most_rules}
 use Rattle.declare.specs.Rules.{no_comparison, no_condition, no_rule}
-use Rattle.declare.proofs.Sweeps.{Swept, swept_none, swept_again, swept_skip, swept_all}
-use Rattle.standings.specs.Places.{zero_in}
+use Rattle.declare.proofs.Sweeps.{swept_none, swept_again, swept_skip, swept_all}
 use Rattle.standings.specs.Totals.{no_totals, with_standing, zero_totals}
 use Rattle.standings.proofs.Places.{zero_is}
 use Rattle.standings.proofs.totals.zero_totals.Goals as goal

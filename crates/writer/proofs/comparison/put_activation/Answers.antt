@@ -6,7 +6,6 @@ use mir.Facts.{to_z-of_z}
 use Rattle.declare.specs.declared.Reference.TheVariants.{Activation}
 use Rattle.rule_text.specs.Written.{reference_text}
 use Rattle.buffer.proofs.Puts.{puts_then, puts_as}
-use borrow.Author.Rules.{rules}
 use Rattle.writer.proofs.comparison.put_activation.Goals as goal
 
 pub returns : goal.returns

@@ -5,7 +5,6 @@ use Prim.Native.Nat.{ℕ}
 use Rattle.number.specs.Written.{digits_of}
 use Rattle.rule_text.specs.Written.{reference_text, comparison_text}
 use Rattle.buffer.proofs.Puts.{puts_then, puts_as}
-use borrow.Author.Rules.{rules}
 use Rattle.writer.proofs.comparison.put_comparison.Goals as goal
 
 pub returns : goal.returns

@@ -3,7 +3,7 @@ use mathlib.Core.Path.{ap}
 use lib.IntN.{ℤ}
 use mir.Syntax.{w32}
 use mir.Facts.{to_z-of_z}
-use borrow.Author.Rules.{rules, sfits_of}
+use borrow.Author.Rules.{sfits_of}
 use Rattle.declare.specs.declared.Reference.TheVariants.{Constant, Activation}
 use Rattle.rule_text.specs.Written.{reference_text}
 use Rattle.buffer.proofs.Puts.{puts_as}

@@ -11,7 +11,6 @@ use Rattle.line.specs.Fields.{each_after, joined}
 use Rattle.rule_text.specs.Conditions.{comma}
 use Rattle.rule_text.specs.Written.{comparison_text, comparisons_text, condition_text}
 use Rattle.buffer.proofs.Puts.{puts_then, puts_as}
-use borrow.Author.Rules.{rules}
 use Rattle.writer.proofs.condition.put_condition.Goals as goal
 
 module _ (c : Condition) where

@@ -1,6 +1,5 @@
 -- The comparisons, then the byte.
 use Rattle.buffer.proofs.Puts.{puts_then}
-use borrow.Author.Rules.{rules}
 use Rattle.writer.proofs.condition.put_condition_field.Goals as goal
 
 pub returns : goal.returns

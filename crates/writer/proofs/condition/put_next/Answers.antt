@@ -1,6 +1,5 @@
 -- The comma, then the comparison.
 use Rattle.buffer.proofs.Puts.{puts_then}
-use borrow.Author.Rules.{rules}
 use Rattle.writer.proofs.condition.put_next.Goals as goal
 
 pub returns : goal.returns

@@ -2,7 +2,6 @@
 use Rattle.cycle_text.specs.Written.{event_fields}
 use Rattle.buffer.proofs.Puts.{puts_then}
 use Rattle.buffer.proofs.Lines.{puts_line}
-use borrow.Author.Rules.{rules}
 use Rattle.writer.proofs.event.put_event.Goals as goal
 
 pub returns : goal.returns

@@ -1,13 +1,9 @@
 -- Line by line.
 use mathlib.Core.Path.{◌≡◌}
-use Prim.Native.Nat.{◌-◌, ◌≤◌}
 use native.Mathlib.Omega.{arith}
-use borrow.Author.Rules.{rules}
-use lib.ListN.{take}
 use Rattle.line.specs.Texts.{written_text}
 use Rattle.cycle_text.specs.Written.{event_fields, events_text}
-use Rattle.buffer.specs.Puts.{Puts}
-use Rattle.buffer.proofs.Puts.{puts_none, puts_length}
+use Rattle.buffer.proofs.Puts.{puts_none}
 use Rattle.buffer.proofs.Lines.{puts_more}
 use Rattle.writer.proofs.event.put_events.Goals as goal
 

@@ -2,7 +2,7 @@
 use mathlib.Core.Path.{ap}
 use mir.Syntax.{w32}
 use mir.Facts.{to_z-of_z}
-use borrow.Author.Rules.{rules, sfits_of}
+use borrow.Author.Rules.{sfits_of}
 use Rattle.number.specs.Written.{integer_text}
 use Rattle.line.specs.Values.{reading_text}
 use Rattle.buffer.proofs.Puts.{puts_as}

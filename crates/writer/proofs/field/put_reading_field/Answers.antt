@@ -1,6 +1,5 @@
 -- The reading, then the byte.
 use Rattle.buffer.proofs.Puts.{puts_then}
-use borrow.Author.Rules.{rules}
 use Rattle.writer.proofs.field.put_reading_field.Goals as goal
 
 pub returns : goal.returns

@@ -1,6 +1,5 @@
 -- By the end.
 use Rattle.rule_text.specs.Written.{end_text}
-use borrow.Author.Rules.{rules}
 use Rattle.writer.proofs.rule.put_end.Goals as goal
 
 pub returns-in-Never : goal.returns-in-Never

@@ -1,6 +1,5 @@
 -- The end, then the byte.
 use Rattle.buffer.proofs.Puts.{puts_then}
-use borrow.Author.Rules.{rules}
 use Rattle.writer.proofs.rule.put_end_field.Goals as goal
 
 pub returns : goal.returns

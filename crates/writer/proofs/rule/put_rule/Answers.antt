@@ -2,7 +2,6 @@
 use Rattle.rule_text.specs.Written.{rule_fields}
 use Rattle.buffer.proofs.Puts.{puts_then}
 use Rattle.buffer.proofs.Lines.{puts_line}
-use borrow.Author.Rules.{rules}
 use Rattle.writer.proofs.rule.put_rule.Goals as goal
 
 pub returns : goal.returns

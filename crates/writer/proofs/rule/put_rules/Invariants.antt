@@ -1,13 +1,7 @@
-use mathlib.Core.Path.{◌≡◌}
 use Prim.Native.Nat.{◌-◌, ◌≤◌}
-use native.Mathlib.Omega.{arith}
-use borrow.Author.Rules.{rules}
 use lib.ListN.{take}
-use Rattle.line.specs.Texts.{written_text}
-use Rattle.rule_text.specs.Written.{rule_fields, rules_text}
+use Rattle.rule_text.specs.Written.{rules_text}
 use Rattle.buffer.specs.Puts.{Puts}
-use Rattle.buffer.proofs.Puts.{puts_none, puts_length}
-use Rattle.buffer.proofs.Lines.{puts_more}
 use Rattle.writer.proofs.rule.put_rules.Given as goal
 
 abbrev pub invariant-loop-k : goal.invariant-loop-k

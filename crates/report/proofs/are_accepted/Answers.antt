@@ -7,9 +7,7 @@ use Rattle.declare.specs.declared.Refusal.{Refusal}
 use Rattle.line.specs.declared.Outcome.{Outcome}
 use Rattle.line.specs.declared.Outcome.TheVariants.{Accepted, Refused}
 use Rattle.line.specs.Texts.{Records, is_all, records_read}
-use borrow.Author.Rules.{rules}
-use Rattle.report.proofs.are_accepted.Statement.{statement}
-use Rattle.report.proofs.are_accepted.Tie as tie
+use Rattle.report.proofs.are_accepted.Goals as goal
 
 module _ {A : Type 0} (rs : List A) {o : Outcome} {x : Records A} where
   accepted : o ≡ Accepted → records_read o rs ≡ x → true ≡ is_all x
@@ -20,21 +18,8 @@ module _ {A : Type 0} (rs : List A) {o : Outcome} {x : Records A} where
   unfolding records_read is_all
   refused e h = rw (← h, e)
 
-read-rules-requires : tie.Need-read-rules-requires
-read-rules-requires c κs = search rules
+pub returns-in-Accepted : goal.returns-in-Accepted
+returns-in-Accepted c = accepted _ c.in-Accepted.is c.read_rules-read.ensures.records
 
-enum_told : tie.Need-enum-told
-enum_told c = search rules
-
-enum-told-2 : tie.Need-enum-told-2
-enum-told-2 c = search rules
-
-returns : tie.Need-returns
-returns c = accepted _ c.enum_told.given.1 c.before.before.read_rules_lem.ensures.records
-
-returns-2 : tie.Need-returns-2
-returns-2 c = refused _ c.enum-told2.given.1 c.before.before.read_rules_lem.ensures.records
-
-pub are-accepted-spec : {M : Type 1} → statement M
-are-accepted-spec =
-    tie.close (tie.spec read-rules-requires enum_told enum-told-2 returns returns-2)
+pub returns-in-Refused : goal.returns-in-Refused
+returns-in-Refused c = refused _ c.in-Refused.is c.read_rules-read.ensures.records

@@ -6,15 +6,14 @@ use Prim.Native.Nat.{ℕ, ◌≤◌}
 use native.Mathlib.Omega.{arith}
 use lib.ListN.{length, take, drop, length-append}
 use lib.Seq.{take-append_seam}
-use Rattle.io.specs.Counts.{IsPrefixLen}
+use Rattle.files.specs.Counts.{IsPrefixLen}
 use Rattle.declare.specs.declared.Refusal.{Refusal}
 use Rattle.buffer.specs.declared.WriteAnswer.{WriteAnswer}
 use Rattle.buffer.specs.declared.WriteAnswer.TheVariants.{Written, Refused}
 use Rattle.buffer.specs.Writes.{Writes}
 use Rattle.buffer.proofs.Writes.{comes_out}
 use borrow.Author.Rules.{rules}
-use Rattle.report.proofs.printed.Statement.{statement}
-use Rattle.report.proofs.printed.Tie as tie
+use Rattle.report.proofs.printed.Goals as goal
 
 front : (text before after : List ℕ) (answer : WriteAnswer) (n : ℕ) → length text ≤ length before → Writes true text before after answer → answer ≡ Written n → IsPrefixLen n after × (take n after ≡ text)
 front text before after answer n room w e =
@@ -30,29 +29,15 @@ never text before after answer cause room w e =
     let z : ◌≡◌ {A = ℕ} 0 1 = cc in
     omega arith
 
-print-texts-requires : tie.Need-print-texts-requires
-print-texts-requires c κs = search rules
+pub returns-in-Written : goal.returns-in-Written
+returns-in-Written c =
+    let w = c.print_texts.ensures in
+    let room : length c.args.out.now ≡ 53792 = search rules in
+    let p = front _ _ _ _ _ (omega arith) w.writes c.in-Written.is in
+    record { prefix_len = p.0; out_after = p.1 }
 
-enum-known-length : tie.Need-enum-known-length
-enum-known-length c = search rules
-
-enum_told : tie.Need-enum-told
-enum_told c = search rules
-
-returns : tie.Need-returns
-returns c =
-    let call = c.before.before.before in
-    let w = call.print_texts_lem.ensures in
-    let room : length call.before.before.before.before.args.out.now ≡ 53792 = search rules in
-    front _ _ _ _ _ (omega arith) w.writes c.before.length.given.1
-
-returns-2 : tie.Need-returns-2
-returns-2 c =
-    let call = c.before.before in
-    let w = call.print_texts_lem.ensures in
-    let room : length call.before.before.before.before.args.out.now ≡ 53792 = search rules in
-    absurd (never _ _ _ _ _ (omega arith) w.writes c.enum_told.given.1)
-
-pub printed-spec : {M : Type 1} → statement M
-printed-spec =
-    tie.close (tie.spec print-texts-requires enum-known-length enum_told returns returns-2)
+pub returns-in-Refused-clause-out_after : goal.returns-in-Refused-clause-out_after
+returns-in-Refused-clause-out_after c =
+    let w = c.print_texts.ensures in
+    let room : length c.args.out.now ≡ 53792 = search rules in
+    absurd (never _ _ _ _ _ (omega arith) w.writes c.in-Refused.is)
