@@ -12,7 +12,7 @@ use run::record::valid_run;
 mod field; // field.rt: fields of small numbers and of readings
 mod event; // event.rt: the lines of events
 mod comparison; // comparison.rt: comparisons
-mod condition; // condition.rt: conditions
+mod conditions; // conditions.rt: conditions
 mod rule; // rule.rt: the lines of rules
 
 // The bytes of the longest texts: 155 a rule, 62 an event. Such a buffer is never too short.

@@ -5,7 +5,7 @@ ghost use Rattle.line.specs.Texts.{written_line};
 ghost use Rattle.rule_text.specs.Written.{end_text, rule_fields, rules_text};
 ghost use Rattle.buffer.specs.Puts.{Puts};
 
-use crate::condition::put_condition_field;
+use crate::conditions::put_condition_field;
 use crate::field::put_byte_field;
 use buffer::numbers::{put_number, put_number_field};
 use buffer::put::put_byte;

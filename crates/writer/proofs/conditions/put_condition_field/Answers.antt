@@ -1,6 +1,6 @@
 -- The comparisons, then the byte.
 use Rattle.buffer.proofs.Puts.{puts_then}
-use Rattle.writer.proofs.condition.put_condition_field.Goals as goal
+use Rattle.writer.proofs.conditions.put_condition_field.Goals as goal
 
 pub returns : goal.returns
 returns c =

@@ -1,6 +1,6 @@
 -- The comma, then the comparison.
 use Rattle.buffer.proofs.Puts.{puts_then}
-use Rattle.writer.proofs.condition.put_next.Goals as goal
+use Rattle.writer.proofs.conditions.put_next.Goals as goal
 
 pub returns : goal.returns
 returns c =

@@ -11,7 +11,7 @@ use Rattle.line.specs.Fields.{each_after, joined}
 use Rattle.rule_text.specs.Conditions.{comma}
 use Rattle.rule_text.specs.Written.{comparison_text, comparisons_text, condition_text}
 use Rattle.buffer.proofs.Puts.{puts_then, puts_as}
-use Rattle.writer.proofs.condition.put_condition.Goals as goal
+use Rattle.writer.proofs.conditions.put_condition.Goals as goal
 
 module _ (c : Condition) where
   none : c.count < 1 → hyphen ∷ [] ≡ condition_text c
