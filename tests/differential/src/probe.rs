@@ -18,10 +18,11 @@ pub trait Program {
 }
 
 /// Where a program is: the path in an environment variable, or
-/// `target/bin/NAME` of the repository.
+/// `crates/NAME/out/NAME` of the repository.
 pub fn path_of(variable: &str, name: &str) -> PathBuf {
-    let built = Path::new(env!("CARGO_MANIFEST_DIR")).join("../../target/bin");
-    let path = std::env::var_os(variable).map_or(built.join(name), PathBuf::from);
+    let crates = Path::new(env!("CARGO_MANIFEST_DIR")).join("../../crates");
+    let built = crates.join(name).join("out").join(name);
+    let path = std::env::var_os(variable).map_or(built, PathBuf::from);
     let found = path.canonicalize();
     found.unwrap_or_else(|error| panic!("the program {} is missing: {error}", path.display()))
 }

@@ -1,10 +1,9 @@
 //! A `Counted` comes from `counted_of` alone: the compiler refuses a crate that
 //! makes one of its own. `rt must-fail` takes only what reaches the prover, so
-//! this stands here. `rt` is needed, and the libraries as it has proved them.
+//! this stands here. `rt` is needed; it refuses the crate before it proves any.
 
 use differential::folder::Folder;
 use std::fs;
-use std::os::unix::fs::symlink;
 use std::path::Path;
 use std::process::Command;
 
@@ -17,22 +16,26 @@ pub fn forged(totals: Totals) -> Counted {
 }
 ";
 
-fn link_all(from: &Path, to: &Path) {
+/// Copies a folder, without what `rt` made in it.
+fn copy_all(from: &Path, to: &Path) {
     fs::create_dir_all(to).expect("a folder");
-    for entry in fs::read_dir(from).expect("what rt has proved") {
+    for entry in fs::read_dir(from).expect("a folder of the crates") {
         let entry = entry.expect("an entry");
-        symlink(entry.path(), to.join(entry.file_name())).expect("a link");
+        let (from, to) = (entry.path(), to.join(entry.file_name()));
+        if from.is_file() {
+            fs::copy(from, to).expect("a copy");
+        } else if entry.file_name() != "out" {
+            copy_all(&from, &to);
+        }
     }
 }
 
-/// A repository of the crates of this one, as they are proved, and `forger`.
+/// A repository of the crates of this one and `forger`.
 fn repository() -> Folder {
     let here = Path::new(env!("CARGO_MANIFEST_DIR")).join("../..");
     let here = here.canonicalize().expect("the repository");
     let folder = Folder::new();
-    for part in ["crates", "target/rlib", "target/stamp"] {
-        link_all(&here.join(part), &folder.path.join(part));
-    }
+    copy_all(&here.join("crates"), &folder.path.join("crates"));
     let crates = fs::read_to_string(here.join("crates.txt")).expect("crates.txt");
     let crates = format!("{crates}forger: declare run standings tally\n");
     fs::write(folder.path.join("crates.txt"), crates).expect("crates.txt");
@@ -46,8 +49,8 @@ fn repository() -> Folder {
 fn a_forged_counted_is_refused() {
     let folder = repository();
     let output = Command::new("rt")
-        .args(["check", "forger"])
-        .current_dir(&folder.path)
+        .arg("check")
+        .current_dir(folder.path.join("crates/forger"))
         .output()
         .expect("rt runs");
     let printed = String::from_utf8_lossy(&output.stdout).into_owned();
