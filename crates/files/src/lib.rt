@@ -82,11 +82,13 @@ pub fn print(rt: &(impl Print + Eprint), bytes: &[u8]) -> bool
     if bytes.len() == 0 {
         return true;
     }
-    let whole = rt.write_all(bytes).is_ok();
-    if !whole {
-        let _ = rt.eprintln("standard output could not be written in full");
+    match rt.write_all(bytes) {
+        Ok(()) => true,
+        Err(error) => {
+            let _ = eprintln!(rt; "standard output could not be written in full: {error}");
+            false
+        },
     }
-    whole
 }
 
 // The line of a file that is not read whole: 13, and line 0.
