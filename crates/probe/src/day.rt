@@ -36,8 +36,7 @@ fn said(rt: &impl Print, outcome: Outcome) -> io::Result<()> {
     }
 }
 
-// `absorb` on a local that is lent for the call. Lending a struct is not covered, so this function
-// has a proof by hand, and all others have the tally by value.
+// `absorb` on a local that is lent for the call; all other functions have the tally by value.
 fn absorbed_in_place(tally: Tally, counted: Counted) -> Sum
     ensures { Absorbs tally counted result.tally result.outcome }
 {
