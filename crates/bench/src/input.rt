@@ -1,19 +1,10 @@
 // The parts of the input.
 use declare::LATEST;
-use number::NaturalAnswer;
-
-fn wide(x: u32) -> usize {
-    x as usize
-}
 
 // The number before the first `end`, or 0.
 pub fn number(part: &[u8], end: u8) -> usize {
     let field = line::number_field(part, end, 0, LATEST);
-    let answer = field.answer;
-    match answer {
-        NaturalAnswer::Natural(value) => wide(value),
-        NaturalAnswer::NoNatural(_) => 0,
-    }
+    field.answer.unwrap_or(0) as usize
 }
 
 // What follows the first `end`.
@@ -33,9 +24,5 @@ pub fn next_at(rest: &[u8], at: usize) -> usize {
     let part = line::part_from(rest, at);
     let bytes = number(part, b'\n');
     let left = line::part_from(after(part, b'\n'), bytes);
-    less(rest.len(), left.len())
-}
-
-fn less(x: usize, y: usize) -> usize {
-    if y <= x { x - y } else { 0 }
+    rest.len().saturating_sub(left.len())
 }

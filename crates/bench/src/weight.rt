@@ -1,105 +1,69 @@
 // Answers made numbers, so that none of them is left out by the compiler.
-use buffer::WriteAnswer;
-use declare::{RULES, Standing};
-use run::{Outcome, Run, StandingAnswer, TotalsAnswer};
-use standings::{Cell, PLACES};
-
-fn wide(x: u16) -> u64 {
-    x as u64
-}
-
-fn of_position(n: usize) -> u64 {
-    n as u64
-}
+use declare::{Refusal, Standing};
+use run::{Run, Step};
+use standings::Cell;
+use standings::totals::Totals;
+use std::num::wrapping_add_u64;
 
 pub fn joined(sum: u64, x: u64) -> u64 {
-    std::num::wrapping_add_u64(sum % 4294967296 * 31, x)
+    wrapping_add_u64(sum % 4294967296 * 31, x)
 }
 
 pub fn of_standing(s: Standing) -> u64 {
     match s {
         Standing::Idle => 0,
         Standing::Open => 1,
-        Standing::Fulfilled(j) => joined(2, wide(j)),
-        Standing::Violated(j) => joined(3, wide(j)),
+        Standing::Fulfilled(j) => joined(2, u64::from(j)),
+        Standing::Violated(j) => joined(3, u64::from(j)),
     }
 }
 
-pub fn of_outcome(outcome: Outcome) -> u64 {
-    match outcome {
-        Outcome::Done => 0,
-        Outcome::Refused(refusal) => of_byte(declare::number_of(refusal)),
+// Of an answer: the weight of its value, or the refusal's number.
+pub fn of_answer<T, F: FnOnce(T) -> u64>(answer: Result<T, Refusal>, weight: F) -> u64
+    requires { F.IsAlwaysCallable weight }
+{
+    match answer {
+        Ok(value) => weight(value),
+        Err(refusal) => u64::from(refusal.number()),
     }
 }
 
-fn of_byte(x: u8) -> u64 {
-    x as u64
+pub fn of_totals(t: Totals) -> u64 {
+    joined(
+        joined(u64::from(t.activations), u64::from(t.fulfilled)),
+        u64::from(t.open),
+    )
 }
 
-pub fn of_asked(a: StandingAnswer) -> u64 {
-    match a {
-        StandingAnswer::Is(s) => of_standing(s),
-        StandingAnswer::Refused(refusal) => of_byte(declare::number_of(refusal)),
-    }
-}
-
-pub fn of_totals(a: TotalsAnswer) -> u64 {
-    match a {
-        TotalsAnswer::Are(t) => joined(
-            joined(wide(t.activations), wide(t.fulfilled)),
-            wide(t.open),
-        ),
-        TotalsAnswer::Refused(refusal) => of_byte(declare::number_of(refusal)),
-    }
-}
-
-pub fn of_written(a: WriteAnswer) -> u64 {
-    match a {
-        WriteAnswer::Written(length) => of_position(length),
-        WriteAnswer::Refused(refusal) => of_byte(declare::number_of(refusal)),
-    }
+pub fn of_length(length: usize) -> u64 {
+    length as u64
 }
 
 // Every byte of a buffer.
 pub fn of_text(bytes: &[u8]) -> u64 {
-    let mut sum: u64 = 0;
-    for i in 0..bytes.len() {
-        sum = joined(sum, of_byte(bytes[i]));
-    }
-    sum
+    bytes
+        .iter()
+        .fold(0, |sum, byte| joined(sum, u64::from(*byte)))
 }
 
 // The first cell and the count only.
-pub fn of_run(run: Run) -> u64 {
-    let cells = run.cells;
-    let c = cells[0];
-    let s = c.standing;
-    joined(of_standing(s), of_position(run.count))
+pub fn of_run(run: &Run) -> u64 {
+    joined(of_standing(run.cells[0].standing), run.count as u64)
+}
+
+// The sum with the outcome and the run of one step more.
+pub fn with_step(sum: u64, step: &Step) -> u64 {
+    let outcome = of_answer(step.outcome, |()| 0);
+    joined(joined(sum, outcome), of_run(&step.run))
+}
+
+fn of_cells(cells: &[Cell]) -> u64 {
+    cells
+        .iter()
+        .fold(0, |sum, cell| joined(sum, of_standing(cell.standing)))
 }
 
 // Every cell, and position 0 of every rule.
-pub fn of_standings(run: Run) -> u64 {
-    let cells = run.cells;
-    let overall = run.overall;
-    joined(of_cells(cells), of_overall(overall))
-}
-
-fn of_overall(overall: [Cell; RULES]) -> u64 {
-    let mut sum: u64 = 0;
-    for k in 0..RULES {
-        let c = overall[k];
-        let s = c.standing;
-        sum = joined(sum, of_standing(s));
-    }
-    sum
-}
-
-fn of_cells(cells: [Cell; PLACES]) -> u64 {
-    let mut sum: u64 = 0;
-    for j in 0..PLACES {
-        let c = cells[j];
-        let s = c.standing;
-        sum = joined(sum, of_standing(s));
-    }
-    sum
+pub fn of_standings(run: &Run) -> u64 {
+    joined(of_cells(&run.cells), of_cells(&run.overall))
 }

@@ -1,31 +1,24 @@
 // Records written as texts.
-use crate::weight;
-use declare::Table;
+use crate::weight::{joined, of_answer, of_length, of_text};
+use declare::{Refusal, Table};
 use run::Run;
 
-fn cycles_into(out: &mut [u8], run: Run, turns: usize) -> u64 {
-    let mut sum: u64 = 0;
-    for i in 0..turns {
-        let a = writer::write_cycle(run, out);
-        sum = weight::joined(sum, weight::of_written(a));
-    }
-    weight::joined(sum, weight::of_text(out))
-}
-
-fn rules_into(out: &mut [u8], table: Table, turns: usize) -> u64 {
-    let mut sum: u64 = 0;
-    for i in 0..turns {
-        let a = writer::write_rules(table, out);
-        sum = weight::joined(sum, weight::of_written(a));
-    }
-    weight::joined(sum, weight::of_text(out))
-}
-
-// w the events of the run are written, p its rules.
-pub fn texts(letter: u8, run: Run, turns: usize) -> u64 {
+// The answers of so many writes into one buffer, and the bytes that it then has.
+fn written<F: FnMut(&mut [u8]) -> Result<usize, Refusal>>(turns: usize, mut write: F) -> u64
+    requires { F.IsAlwaysCallable write }
+{
     let mut out = [0u8; 65536];
-    if letter == b'w' {
-        return cycles_into(&mut out, run, turns);
+    let mut sum = 0;
+    for _ in 0..turns {
+        sum = joined(sum, of_answer(write(&mut out), of_length));
     }
-    rules_into(&mut out, run.table, turns)
+    joined(sum, of_text(&out))
+}
+
+pub fn cycles(run: &Run, turns: usize) -> u64 {
+    written(turns, |out: &mut [u8]| writer::write_cycle(*run, out))
+}
+
+pub fn rules(table: Table, turns: usize) -> u64 {
+    written(turns, |out: &mut [u8]| writer::write_rules(table, out))
 }

@@ -14,7 +14,7 @@ module _ {A : Type 0} (fields_of : A → List (List ℕ)) where
   puts_line r a = puts_as (sym (line_ended (fields_of r))) a
 
   -- the lines of the first k records, and one more
-  pub puts_more : {l m n : List ℕ} {p q : ℕ} (rs : List A) (k : ℕ) (none : A) → k < length rs → Puts (written_text fields_of (take k rs)) l 0 m p → Puts (written_line fields_of (get_or rs k none)) m p n q → Puts (written_text fields_of (take (k + 1) rs)) l 0 n q
+  pub puts_more : {l m n : List ℕ} {at p q : ℕ} (rs : List A) (k : ℕ) (none : A) → k < length rs → Puts (written_text fields_of (take k rs)) l at m p → Puts (written_line fields_of (get_or rs k none)) m p n q → Puts (written_text fields_of (take (k + 1) rs)) l at n q
   puts_more rs k none h a b = puts_as (sym (written_taken fields_of rs k none h)) (puts_then a b)
 
   -- lines after others

@@ -7,8 +7,8 @@ use Prim.Native.Nat.{ℕ, ◌+◌, ◌≤◌, ◌<◌}
 use native.Mathlib.Omega.{arith}
 use borrow.Author.Tests.{lt-ltb, le-ltb, ltb-true}
 use lib.Dec.{ltb}
-use lib.ListN.{length, set, take, drop, length-set, length-append}
-use lib.Seq.{set_out, set-append_seam, take-append_seam}
+use lib.ListN.{length, set, take, drop, length-set, length-append, length-drop, take-append-drop}
+use lib.Seq.{set_out, set-append_seam, take-append_seam, length-take-le}
 use Rattle.buffer.specs.Puts.{next, place_after, stored, Puts}
 
 -- ---- the place
@@ -78,6 +78,13 @@ stored_behind ys (x ∷ l) (b ∷ xs) h =
     rw (set-append_seam ys x l b, next_in (length (ys ++ x ∷ l)) (length ys) inside)
     (rw (← one, ← append_assoc ys (b ∷ []) l) (stored_behind (ys ++ (b ∷ [])) l xs (omega arith)) ∙ append_assoc ys (b ∷ []) (xs ++ drop (length xs) l))
 
+-- at a place, with room
+stored_mid : (l xs : List ℕ) (at : ℕ) → at + length xs ≤ length l → stored l at xs ≡ take at l ++ (xs ++ drop (length xs) (drop at l))
+stored_mid l xs at h =
+    let front : length (take at l) ≡ at = length-take-le at l (omega arith) in
+    let room : length xs ≤ length (drop at l) = rw (length-drop at l) (omega arith) in
+    rw (take-append-drop at l, front) at (stored_behind (take at l) (drop at l) xs room)
+
 -- from the front, with room
 stored_front : (l xs : List ℕ) → length xs ≤ length l → stored l 0 xs ≡ xs ++ drop (length xs) l
 stored_front l xs h = stored_behind [] l xs h
@@ -104,6 +111,9 @@ puts_as {xs} {ys} e a = rw e at a
 
 pub puts_length : {xs l m : List ℕ} {at p : ℕ} → Puts xs l at m p → length m ≡ length l
 puts_length {xs} {l} {m} {at} a = rw a.stores (length_stored l at xs)
+
+pub puts_mid : (l xs : List ℕ) (at : ℕ) → at + length xs ≤ length l → Puts xs l at (take at l ++ (xs ++ drop (length xs) (drop at l))) (at + length xs)
+puts_mid l xs at h = record { stores = sym (stored_mid l xs at h); ends = sym (place_in (length l) at xs h) }
 
 -- at the buffer's end nothing more is put
 pub puts_full : (xs l : List ℕ) (at : ℕ) → length l ≤ at → Puts xs l at l at

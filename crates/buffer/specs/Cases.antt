@@ -1,11 +1,10 @@
 -- Small buffers at both sides of each limit: what the definitions give, and what it should be.
 -- Proved as `checked` in proofs/Cases.
-use Rattle.std.specs.Prelude.{◌≡◌, true, false, List, [], ◌∷◌, ℕ}
+use Rattle.std.specs.Prelude.{◌≡◌, true, false, List, [], ◌∷◌, ℕ, Ok, Err}
 use Rattle.declare.specs.declared.Refusal.TheVariants.{InvalidRecord, BufferTooShort}
-use Rattle.declare.specs.Answers.{Answer, accepted, refused}
-use Rattle.buffer.specs.declared.WriteAnswer.TheVariants.{Written, Refused}
+use Rattle.declare.specs.Answers.{Answer, accepted, refused, answer_of}
 use Rattle.buffer.specs.Puts.{place_after, stored}
-use Rattle.buffer.specs.Writes.{write_of, buffer_after, write_answer}
+use Rattle.buffer.specs.Writes.{write_of, buffer_after}
 
 -- a text of two bytes, and buffers of one byte, two and three
 abbrev pub text : List ℕ
@@ -44,7 +43,7 @@ left =
 -- the code's answers, by number
 unfoldable pub numbered : List (Answer ℕ)
 numbered =
-    write_answer (Written 2) ∷ write_answer (Refused InvalidRecord) ∷ write_answer (Refused BufferTooShort) ∷ []
+    answer_of (Ok 2) ∷ answer_of (Err InvalidRecord) ∷ answer_of (Err BufferTooShort) ∷ []
 
 -- what has no room is left out, and the place stays at the end
 unfoldable pub buffers : List (List ℕ)

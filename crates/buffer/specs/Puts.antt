@@ -1,6 +1,7 @@
 -- Bytes put into a buffer one after another, from a place on. What has no room is left out, and the
 -- place stays at the buffer's end.
 use Rattle.std.specs.Prelude.{◌≡◌, cond, List, [], ◌∷◌, ℕ, ◌+◌, ltb, length, set}
+use Rattle.buffer.specs.declared.put.Output.{Output}
 
 -- the place after one byte, in a buffer of `room` bytes
 unfoldable pub next : ℕ → ℕ → ℕ
@@ -20,3 +21,7 @@ stored buffer at (b ∷ text) = stored (set buffer at b) (next (length buffer) a
 pub record Puts (text before : List ℕ) (at : ℕ) (after : List ℕ) (place : ℕ) : Type 0 where
   pub stores : after ≡ stored before at text
   pub ends : place ≡ place_after (length before) at text
+
+-- the same of the code's output: a buffer with a place
+abbrev pub Put : List ℕ → Output → Output → Type 0
+Put text before after = Puts text before.bytes.now before.at after.bytes.now after.at

@@ -4,26 +4,19 @@
 ghost use Rattle.std.specs.Prelude.{true};
 ghost use Rattle.buffer.specs.Writes.{Writes};
 
-use crate::put::put_bytes;
 use declare::Refusal;
 
 pub mod put; // put.rt: bytes
 pub mod numbers; // numbers.rt: numbers, and the fields that hold them
 
-// What a call that writes a text answers: the text's length, or why nothing is written.
-#[derive(Clone, Copy)]
-pub enum WriteAnswer {
-    Written(usize),
-    Refused(Refusal),
-}
-
-// The text in front of the buffer, the bytes beyond it as they were. Refused with 15.
-pub fn write(text: &[u8], out: &mut [u8]) -> WriteAnswer
+// The text in front of the buffer, the bytes beyond it as they were; the answer is the text's
+// length. Refused with 15.
+pub fn write(text: &[u8], out: &mut [u8]) -> Result<usize, Refusal>
     ensures { Writes true text.now out.old out.new result }
 {
     if out.len() < text.len() {
-        return WriteAnswer::Refused(Refusal::BufferTooShort);
+        return Err(Refusal::BufferTooShort);
     }
-    let length = put_bytes(out, 0, text);
-    WriteAnswer::Written(length)
+    out[..text.len()].copy_from_slice(text);
+    Ok(text.len())
 }

@@ -1,28 +1,31 @@
-// Bytes put into a buffer. What has no room is left out; the answer is the place after the bytes.
+// Bytes put into a buffer, one behind the other. What has no room is left out.
 ghost use Rattle.std.specs.Prelude.{[], ◌∷◌};
-ghost use Rattle.buffer.specs.Puts.{Puts};
+ghost use Rattle.buffer.specs.Puts.{Put};
 
-use declare::numbers::min;
-
-pub fn put_byte(out: &mut [u8], at: usize, byte: u8) -> usize
-    ensures { Puts (byte ∷ []) out.old at out.new result }
-{
-    if at < out.len() {
-        out[at] = byte;
-        return at + 1;
-    }
-    at
+// A lent buffer, and the place where the next byte is put.
+#[derive(Drop)]
+pub struct Output<'a> {
+    pub bytes: &'a mut [u8],
+    pub at: usize,
 }
 
-pub fn put_bytes(out: &mut [u8], at: usize, bytes: &[u8]) -> usize
-    ensures { Puts bytes.now out.old at out.new result }
-{
-    if out.len() <= at {
-        return at;
+impl Output<'_> {
+    pub fn put_byte(&mut self, byte: u8)
+        ensures { Put (byte ∷ []) self.old self.new }
+    {
+        if self.at < self.bytes.len() {
+            self.bytes[self.at] = byte;
+            self.at += 1;
+        }
     }
-    let n = min(bytes.len(), out.len() - at);
-    for i in 0..n {
-        out[at + i] = bytes[i];
+
+    pub fn put_bytes(&mut self, bytes: &[u8])
+        ensures { Put bytes.now self.old self.new }
+    {
+        if self.at < self.bytes.len() {
+            let n = bytes.len().min(self.bytes.len() - self.at);
+            self.bytes[self.at..self.at + n].copy_from_slice(&bytes[..n]);
+            self.at += n;
+        }
     }
-    at + n
 }

@@ -1,4 +1,2 @@
 -- The laws of the crate that belong to no one function; those of Laws are for the crates above too.
 pub mod Laws
-pub mod Four
-pub mod Sums

@@ -1,5 +1,5 @@
 -- A rule bound to one activation.
-use Rattle.std.specs.Prelude.{Bool, ◌&&◌, List, [], ◌∷◌, ℕ, eqb, take}
+use Rattle.std.specs.Prelude.{Bool, ◌&&◌, List, [], ◌∷◌, ℕ, eqb}
 use Rattle.declare.specs.declared.Event.{Event}
 use Rattle.declare.specs.declared.Condition.{Condition}
 use Rattle.declare.specs.declared.Test.{Test}
@@ -9,17 +9,21 @@ use Rattle.declare.specs.Comparisons.{test_of, passes}
 use Rattle.declare.specs.Events.{empty_slot}
 use Rattle.declare.specs.Suits.{within, between}
 use Rattle.declare.specs.Reachability.{satisfiable, has_room}
-use Rattle.condition.specs.declared.bound.Tests.{Tests}
+use Rattle.condition.specs.declared.four.Four.{Four}
+use Rattle.condition.specs.Four.{used}
 use Rattle.condition.specs.declared.bound.Bound.{Bound}
 
+abbrev pub Tests : Type 0
+Tests = Four Test
+
 -- the tests in use
-unfoldable pub test_list : Tests → List Test
-test_list ts = take ts.count (ts.first ∷ ts.second ∷ ts.third ∷ ts.fourth ∷ [])
+abbrev pub test_list : Tests → List Test
+test_list ts = used ts
 
 -- a condition for the activation a
 unfoldable pub tests_for : Event → Condition → Tests
 tests_for a c =
-    record { count = c.count; first = test_of a c.first; second = test_of a c.second; third = test_of a c.third; fourth = test_of a c.fourth }
+    record { count = c.count; items = test_of a c.first ∷ test_of a c.second ∷ test_of a c.third ∷ test_of a c.fourth ∷ [] }
 
 -- the rule for the activation a
 unfoldable pub bound_of : Rule → Event → Bound

@@ -1,2 +1,3 @@
 -- A rule bound to one activation.
+pub mod Four
 pub mod Bound

@@ -1,44 +1,27 @@
 // Conditions: up to four comparisons.
 ghost use Rattle.std.specs.Prelude.{◌≡◌};
+ghost use Rattle.std.specs.List.{list_all};
 ghost use Rattle.declare.specs.Comparisons.{test_of, passes};
 ghost use Rattle.declare.specs.Conditions.{met};
 
 use crate::comparison::{passes, test_of};
+use crate::four::Four;
 use declare::{Comparison, Condition, Event};
 
-// Whether the comparison holds of e, for the activation a.
-fn comparison_holds(c: Comparison, a: Event, e: Event) -> bool
-    ensures { result ≡ passes e (test_of a c) }
+// Whether the comparisons hold of e, for the activation a: up to the first that does not.
+fn hold(comparisons: &[Comparison], a: Event, e: Event) -> bool
+    ensures { result ≡ list_all (λ c. passes e (test_of a c)) comparisons.now }
 {
-    passes(e, test_of(a, c))
+    comparisons.iter().all(|c| passes(e, test_of(a, *c)))
 }
 
-// Whether e meets the condition, for the activation a: up to the first comparison that does not
-// hold.
+// Whether e meets the condition, for the activation a.
 pub fn met(c: Condition, a: Event, e: Event) -> bool
     ensures { result ≡ met c a e }
 {
-    let count = c.count;
-    if count < 1 {
-        return true;
-    }
-    if !comparison_holds(c.first, a, e) {
-        return false;
-    }
-    if count < 2 {
-        return true;
-    }
-    if !comparison_holds(c.second, a, e) {
-        return false;
-    }
-    if count < 3 {
-        return true;
-    }
-    if !comparison_holds(c.third, a, e) {
-        return false;
-    }
-    if count < 4 {
-        return true;
-    }
-    comparison_holds(c.fourth, a, e)
+    let comparisons = Four {
+        count: c.count,
+        items: [c.first, c.second, c.third, c.fourth],
+    };
+    hold(comparisons.used(), a, e)
 }

@@ -1,24 +1,27 @@
--- What read_cycle promises of an accepted text: from its outcome to the text's events, and back.
+-- What read_cycle promises of a text: from its answer to what the text holds, and back.
 use mathlib.Core.Path.{◌≡◌, sym, ap, ◌∙◌}
 use mathlib.Core.List.{List}
 use Prim.Native.Nat.{ℕ}
-use lib.ListN.{length, take}
-use Rattle.declare.specs.Slots.{event_slots}
-use Rattle.line.specs.Texts.{Records, All, records_read}
-use Rattle.line.proofs.Texts.{outcome_accepted}
-use Rattle.cycle_text.specs.Types.{Event, Outcome, Accepted, CycleRead}
+use Rattle.std.specs.Prelude.{Result, Ok, Err}
+use Rattle.std.proofs.lemmas.Result.{IfOk-at_ok}
+use Rattle.declare.specs.Refusals.{number_of}
+use Rattle.line.specs.Texts.{All, Stop, records_read}
+use Rattle.line.proofs.Texts.{accepted_lem}
+use Rattle.cycle_text.specs.Types.{Event, Events, LineRefusal}
 use Rattle.cycle_text.specs.Cycle.{cycle_text_of}
-use Rattle.cycle_text.specs.Reads.{records_of, events_in, ReadsCycle}
+use Rattle.cycle_text.specs.Reads.{events_in, slots_of, ReadsCycle}
 
-module _ (text : List ℕ) (read : CycleRead) (reads : ReadsCycle text read) where
-  pub accepted_events : read.outcome ≡ Accepted → cycle_text_of text ≡ All (take read.count read.events)
-  unfolding records_of records_read
-  accepted_events o = sym reads.records ∙ ap (λ (x : Outcome). records_read x (take read.count read.events)) o
+module _ (text : List ℕ) (r : Result Events LineRefusal) (reads : ReadsCycle text r) where
+  pub accepted_events : (e : Events) → r ≡ Ok e → cycle_text_of text ≡ All (events_in e)
+  unfolding records_read
+  accepted_events e h = sym (rw h at reads.records)
 
-  pub events_read : (es : List Event) → cycle_text_of text ≡ All es → (read.outcome ≡ Accepted) × (read.count ≡ length es) × (read.events ≡ event_slots es)
-  unfolding records_of events_in
-  events_read es e = (
-    outcome_accepted read.outcome (take read.count read.events) es (reads.records ∙ e),
-    reads.count ∙ ap (λ (x : Records Event). length (events_in x)) e,
-    reads.events ∙ ap (λ (x : Records Event). event_slots (events_in x)) e,
-  )
+  pub refused_text : (x : LineRefusal) → r ≡ Err x → cycle_text_of text ≡ Stop (number_of x.refusal) x.line
+  unfolding records_read
+  refused_text x h = sym (rw h at reads.records)
+
+  pub events_read : (es : List Event) → cycle_text_of text ≡ All es → r ≡ Ok (slots_of es)
+  events_read es e =
+      let a = accepted_lem events_in r es (reads.records ∙ e) in
+      let s : a.value ≡ slots_of (events_in a.value) = IfOk-at_ok (λ (x : Events). x ≡ slots_of (events_in x)) a.answer reads.slots in
+      a.answer ∙ ap Ok s ∙ rw a.records

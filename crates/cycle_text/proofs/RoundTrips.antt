@@ -5,11 +5,10 @@ use mathlib.Core.Bool.{true}
 use mathlib.Core.List.{List, [], ◌∷◌, ◌++◌}
 use Prim.Native.Nat.{ℕ, ◌+◌, ◌≤◌, ◌<◌}
 use native.Mathlib.Omega.{arith}
-use borrow.Author.Tests.{leb-true, le-leb, ltb-true, lt-ltb, eqb-true}
+use borrow.Author.Tests.{leb-true, le-leb, lt-ltb, eqb-true}
 use lib.Dec.{leb}
 use lib.ListN.{length, get_or, length-append}
 use Rattle.declare.specs.Lists.{all}
-use Rattle.declare.specs.Comparisons.{operand_of}
 use Rattle.declare.specs.Events.{latest, in_range, is_activity, readings_in_range, well_formed, non_falling_from, non_falling, last_from, last_time}
 use Rattle.declare.specs.Steps.{Cycle}
 use Rattle.declare.specs.Limits.{last_activity, most_events}
@@ -27,7 +26,8 @@ use Rattle.line.proofs.Texts.{Parted, Follow, text_written, text_back, accepted_
 use Rattle.cycle_text.specs.Types.{Event}
 use Rattle.cycle_text.specs.Cycle.{event_field_count, event_of, in_order, event_after, cycle_text_of}
 use Rattle.cycle_text.specs.Written.{event_fields, events_text, RoundTrips}
-use Rattle.cycle_text.proofs.Turns.{last_taken}
+use Rattle.cycle_text.specs.Reads.{below}
+use Rattle.cycle_text.proofs.Turns.{last_taken, passed_lem}
 
 -- ---- a line that was read
 
@@ -84,17 +84,10 @@ record After (above : List Event) (fields : List (List ℕ)) (e : Event) : Type 
   room : length above < most_events
 
 event_after_lem : (above : List Event) (fields : List (List ℕ)) (e : Event) → event_after above fields ≡ accepted e → After above fields e
-unfolding event_after in_order
+unfolding event_after below
 event_after_lem above fields e h =
-    let t = through _ _ e h in
-    let o = required _ 7 _ e t.rest in
-    let l = required _ 8 _ e o.1 in
-    let k : t.value ≡ e = of_of l.1 in
-    record {
-      line = event_read_lem fields e (t.first ∙ ap accepted k);
-      order = leb-true (last_time above) e.time (rw k at o.0);
-      room = ltb-true (length above) most_events l.0;
-    }
+    let p = passed_lem above (event_of fields) e h in
+    record { line = event_read_lem fields e p.line; order = p.order; room = p.room }
 
 -- ---- an accepted text
 
@@ -121,20 +114,20 @@ pub record Formed (e : Event) : Type 0 where
   pub time : e.time ≤ latest
   pub low : 1 ≤ e.activity
   pub high : e.activity ≤ last_activity
-  pub reading1 : in_range (operand_of e.reading1) ≡ true
-  pub reading2 : in_range (operand_of e.reading2) ≡ true
-  pub reading3 : in_range (operand_of e.reading3) ≡ true
-  pub reading4 : in_range (operand_of e.reading4) ≡ true
+  pub reading1 : in_range e.reading1 ≡ true
+  pub reading2 : in_range e.reading2 ≡ true
+  pub reading3 : in_range e.reading3 ≡ true
+  pub reading4 : in_range e.reading4 ≡ true
 
 pub formed : (e : Event) → well_formed e ≡ true → Formed e
 unfolding well_formed is_activity readings_in_range all
 formed e h =
     let p : (leb e.time latest ≡ true) × (is_activity e.activity ≡ true) × (readings_in_range e ≡ true) = and₃ h in
     let a : (leb 1 e.activity ≡ true) × (leb e.activity last_activity ≡ true) = and₂ p.1 in
-    let q : (in_range (operand_of e.reading1) ≡ true) × (all (λ v. in_range (operand_of v)) (e.reading2 ∷ e.reading3 ∷ e.reading4 ∷ []) ≡ true) = and₂ p.2 in
-    let r : (in_range (operand_of e.reading2) ≡ true) × (all (λ v. in_range (operand_of v)) (e.reading3 ∷ e.reading4 ∷ []) ≡ true) = and₂ q.1 in
-    let u : (in_range (operand_of e.reading3) ≡ true) × (all (λ v. in_range (operand_of v)) (e.reading4 ∷ []) ≡ true) = and₂ r.1 in
-    let v : (in_range (operand_of e.reading4) ≡ true) × (true ≡ true) = and₂ u.1 in
+    let q : (in_range e.reading1 ≡ true) × (all in_range (e.reading2 ∷ e.reading3 ∷ e.reading4 ∷ []) ≡ true) = and₂ p.2 in
+    let r : (in_range e.reading2 ≡ true) × (all in_range (e.reading3 ∷ e.reading4 ∷ []) ≡ true) = and₂ q.1 in
+    let u : (in_range e.reading3 ≡ true) × (all in_range (e.reading4 ∷ []) ≡ true) = and₂ r.1 in
+    let v : (in_range e.reading4 ≡ true) × (true ≡ true) = and₂ u.1 in
     record {
       time = leb-true e.time latest p.0;
       low = leb-true 1 e.activity a.0;

@@ -1,20 +1,17 @@
--- The reader's turns: the checks of an event below those above it, and the answers that the reader
--- returns.
-use mathlib.Core.Path.{◌≡◌, sym}
+-- The reader's turns: the checks of an event below those above it.
+use mathlib.Core.Path.{◌≡◌, ap, ◌∙◌}
 use mathlib.Core.List.{List, [], ◌∷◌, ◌++◌}
-use Prim.Native.Nat.{ℕ, ◌≤◌, ◌<◌}
-use borrow.Author.Tests.{le-leb, lt-leb, lt-ltb, le-ltb}
-use lib.ListN.{length, take}
+use Prim.Native.Nat.{◌≤◌, ◌<◌}
+use borrow.Author.Tests.{leb-true, le-leb, lt-leb, ltb-true, lt-ltb, le-ltb}
+use lib.ListN.{length}
 use Rattle.declare.specs.Limits.{most_events}
-use Rattle.declare.specs.Events.{last_from, last_time, empty_slot}
-use Rattle.declare.specs.Refusals.{number_of}
-use Rattle.declare.specs.Answers.{accepted, refused, ◌>>◌, require}
+use Rattle.declare.specs.Events.{last_from, last_time}
+use Rattle.declare.specs.Answers.{Answer, accepted, refused, ◌>>◌, require}
+use Rattle.declare.proofs.Answers.{of_of, through, required}
 use Rattle.declare.proofs.Extension.{last_parts}
-use Rattle.declare.proofs.Filled.{Filled, filled_count}
-use Rattle.line.specs.Texts.{All, Stop, records_read}
-use Rattle.cycle_text.specs.Types.{Event, Refusal, Accepted, CycleRead}
-use Rattle.cycle_text.specs.Cycle.{in_order, cycle_text_of}
-use Rattle.cycle_text.specs.Reads.{records_of, events_in, refused_read, ReadsCycle}
+use Rattle.cycle_text.specs.Types.{Event}
+use Rattle.cycle_text.specs.Cycle.{in_order}
+use Rattle.cycle_text.specs.Reads.{below}
 
 module _ (above : List Event) (e : Event) where
   pub falls : e.time < last_time above → in_order above e ≡ refused 7
@@ -34,13 +31,21 @@ module _ (above : List Event) (e : Event) where
   unfolding last_time last_from
   last_taken = last_parts 0 above (e ∷ [])
 
--- ---- what is returned
+-- an event that was passed: its line gave it, and it may stand below those above it
+pub record Passed (above : List Event) (answer : Answer Event) (e : Event) : Type 0 where
+  pub line : answer ≡ accepted e
+  pub order : last_time above ≤ e.time
+  pub room : length above < most_events
 
-pub answer_refused : (text : List ℕ) (r : CycleRead) (cause : Refusal) (line : ℕ) → r ≡ refused_read cause line → cycle_text_of text ≡ Stop (number_of cause) line → ReadsCycle text r
-unfolding records_of records_read events_in refused_read
-answer_refused text r cause line p q = record { records = rw (p, q); count = rw (p, q); events = rw (p, q) }
-
-pub answer_accepted : (text : List ℕ) (count : ℕ) (events : List Event) → Filled most_events empty_slot count events → cycle_text_of text ≡ All (take count events) → ReadsCycle text (record { outcome = Accepted; count = count; events = events })
-unfolding records_of records_read events_in
-answer_accepted text count events h q =
-    record { records = sym q; count = rw q (sym (filled_count most_events empty_slot count events h)); events = rw q h.same }
+pub passed_lem : (above : List Event) (answer : Answer Event) (e : Event) → below above answer ≡ accepted e → Passed above answer e
+unfolding below in_order
+passed_lem above answer e h =
+    let t = through _ _ e h in
+    let o = required _ 7 _ e t.rest in
+    let l = required _ 8 _ e o.1 in
+    let k : t.value ≡ e = of_of l.1 in
+    record {
+      line = t.first ∙ ap accepted k;
+      order = leb-true (last_time above) e.time (rw k at o.0);
+      room = ltb-true (length above) most_events l.0;
+    }

@@ -1,5 +1,6 @@
 -- Whole cycle texts, by computation over the definitions: what is accepted, each refusal with its
 -- line, and the order of the checks.
+use Rattle.std.specs.Prelude.{None, Some}
 use mathlib.Core.Path.{◌≡◌, refl}
 use mathlib.Core.List.{List, [], ◌∷◌, ◌++◌}
 use Prim.Native.Nat.{ℕ}
@@ -12,25 +13,25 @@ use Rattle.number.specs.Written.{digits_in, digits_of, integer_text}
 use Rattle.number.proofs.Quoted.{bytes, repeated, Case, ◌gives◌, Checked}
 use Rattle.line.specs.Fields.{onto, split, each_after, joined}
 use Rattle.declare.specs.Answers.{◌>>=◌, ◌>>◌, require}
-use Rattle.line.specs.Values.{fault_number, natural_answer, number_field, integer_answer, reading_field, reading_text}
+use Rattle.line.specs.Values.{number_field, reading_field, reading_text}
 use Rattle.line.specs.Texts.{Records, All, Stop, line_after, continued, lines_of, text_of, written_line, written_text}
-use Rattle.cycle_text.specs.Types.{Reading, Blank, Value, Event}
+use Rattle.cycle_text.specs.Types.{Reading, Event}
 use Rattle.cycle_text.specs.Cycle.{event_of, in_order, event_after, cycle_text_of}
 use Rattle.declare.specs.Slots.{padded, event_slots}
 use Rattle.cycle_text.specs.Written.{event_fields, events_text}
 
 abbrev event : ℕ → ℕ → Reading → Event
-event t a r = record { time = t; activity = a; reading1 = r; reading2 = Blank; reading3 = Blank; reading4 = Blank }
+event t a r = record { time = t; activity = a; reading1 = r; reading2 = None; reading3 = None; reading4 = None }
 
 -- document 01's listing
 abbrev listing : List Event
 listing =
-    event 0 1 (Value (pos 7))
-    ∷ event 400 2 (Value (pos 7))
-    ∷ event 400 3 (Value (pos 7))
-    ∷ event 900 3 (Value (pos 7))
-    ∷ event 1000 1 (Value (pos 7))
-    ∷ event 1500 2 (Value (pos 7))
+    event 0 1 (Some (pos 7))
+    ∷ event 400 2 (Some (pos 7))
+    ∷ event 400 3 (Some (pos 7))
+    ∷ event 900 3 (Some (pos 7))
+    ∷ event 1000 1 (Some (pos 7))
+    ∷ event 1500 2 (Some (pos 7))
     ∷ []
 
 abbrev listing_text : List ℕ
@@ -43,17 +44,17 @@ longest_text = "4294967295\t64\t-2147483648\t-2147483648\t-2147483648\t-21474836
 
 abbrev longest : Event
 longest =
-    let lowest : Reading = Value (negsuc 2147483647) in
+    let lowest : Reading = Some (negsuc 2147483647) in
     record { time = 4294967295; activity = 64; reading1 = lowest; reading2 = lowest; reading3 = lowest; reading4 = lowest }
 
 abbrev accepted_texts : List (Case (Records Event))
 accepted_texts =
     "" gives All []
     -- times may repeat
-    ∷ "5\t1\t-\t-\t-\t-\n5\t1\t-\t-\t-\t-\n" gives All (event 5 1 Blank ∷ event 5 1 Blank ∷ [])
-    ∷ "0\t1\t0\t-\t-\t-\n" gives All (event 0 1 (Value (pos 0)) ∷ [])
-    ∷ "4294967295\t64\t2147483647\t-\t-\t-\n" gives All (event 4294967295 64 (Value (pos 2147483647)) ∷ [])
-    ∷ "0\t1\t-2147483648\t-\t-\t-\n" gives All (event 0 1 (Value (negsuc 2147483647)) ∷ [])
+    ∷ "5\t1\t-\t-\t-\t-\n5\t1\t-\t-\t-\t-\n" gives All (event 5 1 None ∷ event 5 1 None ∷ [])
+    ∷ "0\t1\t0\t-\t-\t-\n" gives All (event 0 1 (Some (pos 0)) ∷ [])
+    ∷ "4294967295\t64\t2147483647\t-\t-\t-\n" gives All (event 4294967295 64 (Some (pos 2147483647)) ∷ [])
+    ∷ "0\t1\t-2147483648\t-\t-\t-\n" gives All (event 0 1 (Some (negsuc 2147483647)) ∷ [])
     ∷ longest_text gives All (longest ∷ [])
     ∷ []
 
@@ -127,12 +128,12 @@ full =
     ∷ "5\t1\tx\t-\t-\t-\n" gives Stop 2 257
     ∷ "5\t1" gives Stop 12 257
     ∷ "5\t1\t-\t-\t-\t-\nx\n" gives Stop 8 257
-    ∷ "" gives All (replicate 256 (event 5 1 Blank))
+    ∷ "" gives All (replicate 256 (event 5 1 None))
     ∷ []
 
 pub record Vectors : Type 0 where
   -- 256 slots, each that is not filled at time 0, activity 1 and blank readings
-  pub of_slots : event_slots (event 5 2 Blank ∷ []) ≡ event 5 2 Blank ∷ replicate 255 (event 0 1 Blank)
+  pub of_slots : event_slots (event 5 2 None ∷ []) ≡ event 5 2 None ∷ replicate 255 (event 0 1 None)
   pub of_longest : length (bytes longest_text) ≡ 62
   pub listing_read : cycle_text_of listing_text ≡ All listing
   pub listing_written : events_text listing ≡ listing_text
@@ -142,7 +143,7 @@ pub record Vectors : Type 0 where
   pub of_full : Checked (λ s. cycle_text_of (repeated 256 "5\t1\t-\t-\t-\t-\n" ++ s)) full
 
 pub vectors : Vectors
-unfolding last_from last_time digit digits none zero_alone positive negative natural_form integer_form dash value_from value_of integer_value in_natural_range natural_of in_signed_range integer_of digits_in digits_of integer_text onto split each_after joined ◌>>=◌ ◌>>◌ require fault_number natural_answer number_field integer_answer reading_field reading_text line_after continued lines_of text_of written_line written_text event_of in_order event_after cycle_text_of padded empty_slot event_fields events_text
+unfolding last_from last_time digit digits none zero_alone positive negative natural_form integer_form dash value_from value_of integer_value in_natural_range natural_of in_signed_range integer_of digits_in digits_of integer_text onto split each_after joined ◌>>=◌ ◌>>◌ require number_field reading_field reading_text line_after continued lines_of text_of written_line written_text event_of in_order event_after cycle_text_of padded empty_slot event_fields events_text
 vectors =
     record {
       of_slots = refl;

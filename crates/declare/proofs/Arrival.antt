@@ -3,6 +3,7 @@
 -- One way: an eligible event past the end shows that the window still has room, that the next
 -- position is in reach, and that the correlation is satisfiable. The other way: the soonest event
 -- with the chosen readings, at the next position, is eligible.
+use Rattle.std.specs.Prelude.{None, Some}
 use mathlib.Core.Path.{◌≡◌, refl, sym, ◌∙◌}
 use mathlib.Core.Bool.{Bool, true, false}
 use mathlib.Core.List.{List, [], ◌∷◌, ◌++◌}
@@ -11,7 +12,7 @@ use native.Mathlib.Omega.{arith}
 use borrow.Author.Tests.{ltb-true, leb-true, lt-ltb, le-leb, eq-eqb}
 use lib.Dec.{leb, eqb}
 use lib.ListN.{length, get_or, length-append}
-use Rattle.declare.specs.Types.{Event, Comparison, Condition, End, Never, At, Window, Rule}
+use Rattle.declare.specs.Types.{Event, Comparison, Condition, End, Window, Rule}
 use Rattle.declare.specs.Lists.{all}
 use Rattle.declare.specs.Limits.{most_comparisons}
 use Rattle.declare.specs.Comparisons.{test_of, passes}
@@ -58,8 +59,8 @@ continuation_parts h added c = and₂ c
 
 before_down : (u : End) (c d : ℕ) → c ≤ d → before_end d u ≡ true → before_end c u ≡ true
 unfolding before_end
-before_down Never c d l h = refl
-before_down (At b) c d l h = lt-ltb c b (omega (arith, ltb-true d b h))
+before_down None c d l h = refl
+before_down (Some b) c d l h = lt-ltb c b (omega (arith, ltb-true d b h))
 
 pub room : (w : Window) (t h s : ℕ) → t ≤ h → h ≤ s → s ≤ latest → within w (between t s) ≡ true → has_room w t h ≡ true
 unfolding has_room within soonest

@@ -19,6 +19,7 @@ pub mod Answers
 pub mod Steps
 pub mod Sweeps
 pub mod Lists
+pub mod Chains
 pub mod Filled
 pub mod Carried
 pub mod Tables

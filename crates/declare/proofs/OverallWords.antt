@@ -1,4 +1,5 @@
 -- The sentences on the templates 13 to 16.
+use Rattle.std.specs.Prelude.{None, Some}
 use mathlib.Core.Path.{◌≡◌, refl, subst, ◌∙◌, ap}
 use mathlib.Core.Logic.{◌↔◌, ◌⊎◌}
 use mathlib.Core.Bool.{Bool, true, false, not, ◌&&◌, ◌||◌}
@@ -8,7 +9,7 @@ use native.Mathlib.Omega.{arith}
 use borrow.Author.Tests.{ltb-true, leb-true, eqb-true, lt-ltb, le-leb, eq-eqb}
 use lib.Dec.{leb}
 use lib.ListN.{length}
-use Rattle.declare.specs.Types.{Event, End, Never, At, Rule}
+use Rattle.declare.specs.Types.{Event, End, Rule}
 use Rattle.declare.specs.Events.{event_at, first_time}
 use Rattle.declare.specs.Overall.{is_overall, overall_of, counts_target, formula}
 use Rattle.declare.specs.Suits.{occurs, before_end, within, between}
@@ -25,8 +26,8 @@ use Rattle.declare.proofs.Exactness.{verdict_is}
 
 pub before_reads : (d : ℕ) (u : End) → (before_end d u ≡ true) ↔ Before d u
 unfolding before_end
-before_reads d Never = ((λ _. tt), (λ _. refl))
-before_reads d (At b) = (ltb-true d b, lt-ltb d b)
+before_reads d None = ((λ _. tt), (λ _. refl))
+before_reads d (Some b) = (ltb-true d b, lt-ltb d b)
 
 -- ---- the codes 13 to 16
 

@@ -1,6 +1,8 @@
 -- What a call answers: a value, or the number of document 01's table for the first cause that
 -- holds. A `do` block goes through its checks in order.
-use Rattle.std.specs.Prelude.{Bool, true, false, cond, ℕ}
+use Rattle.std.specs.Prelude.{Bool, true, false, cond, ℕ, Result, Ok, Err}
+use Rattle.declare.specs.Types.{Refusal}
+use Rattle.declare.specs.Refusals.{number_of}
 
 pub data Answer (A : Type 0) : Type 0 where
   accepted : A → Answer A
@@ -27,3 +29,8 @@ is_accepted (refused n) = false
 unfoldable pub after_call : {A : Type 0} → A → Answer A → A
 after_call before (accepted next) = next
 after_call before (refused n) = before
+
+-- what the code's answers say, by document 01's numbers
+unfoldable pub answer_of : {A : Type 0} → Result A Refusal → Answer A
+answer_of (Ok a) = accepted a
+answer_of (Err cause) = refused (number_of cause)

@@ -1,7 +1,7 @@
 -- Cases of several comparisons on one reading (document 02, Card 6): "judged over all comparisons
 -- on a reading jointly".
-use Rattle.std.specs.Prelude.{Bool, true, false, List, [], ◌∷◌, ℕ, ℤ, pos, negsuc}
-use Rattle.declare.specs.Types.{Operator, Equal, NotEqual, Less, AtMost, Greater, AtLeast, Constant, Activation, Comparison, Condition, Never, Rule, Idle, Open, Fulfilled, Violated}
+use Rattle.std.specs.Prelude.{Bool, true, false, List, [], ◌∷◌, ℕ, ℤ, pos, negsuc, None}
+use Rattle.declare.specs.Types.{Operator, Equal, NotEqual, Less, AtMost, Greater, AtLeast, Constant, Activation, Comparison, Condition, Rule, Idle, Open, Fulfilled, Violated}
 use Rattle.declare.specs.Conditions.{tests_of, met}
 use Rattle.declare.specs.Reachability.{satisfiable}
 use Rattle.declare.specs.EdgeCycles.{Case, ◌is◌, compare, unused, always, window, rule, event, reads, live}
@@ -90,11 +90,11 @@ bands =
 
 -- a rule of this code with the band as its correlation, and as its activation condition
 abbrev pub towards : ℕ → Condition → Rule
-towards code band = rule code 2 (window 0 Never) band
+towards code band = rule code 2 (window 0 None) band
 
 abbrev pub from6 : Rule
 from6 =
-    record { code = 2; activation = 1; target = 2; window = window 0 Never; condition = leaves6; correlation = always }
+    record { code = 2; activation = 1; target = 2; window = window 0 None; condition = leaves6; correlation = always }
 
 unfoldable pub banded : List Case
 banded =
@@ -117,12 +117,12 @@ banded =
     ∷ live from6 (reads 0 1 (pos 6) ∷ []) 1 is Open
     ∷ live from6 (reads 0 1 (pos 7) ∷ []) 1 is Idle
     -- position 0, before the first event and after it
-    ∷ live (overall 13 0 Never leaves6) [] 0 is Open
-    ∷ live (overall 13 0 Never leaves6) (reads 0 1 (pos 5) ∷ []) 0 is Open
-    ∷ live (overall 13 0 Never leaves6) (reads 0 1 (pos 6) ∷ []) 0 is Fulfilled 1
-    ∷ live (overall 13 0 Never leaves_none) [] 0 is Violated 0
-    ∷ live (overall 14 0 Never leaves_none) [] 0 is Fulfilled 0
-    ∷ live (overall 15 0 Never leaves_none) [] 0 is Violated 0
-    ∷ live (overall 16 0 Never leaves_none) [] 0 is Violated 0
-    ∷ live (overall 13 0 Never leaves_none) (reads 0 1 (pos 6) ∷ []) 0 is Violated 0
+    ∷ live (overall 13 0 None leaves6) [] 0 is Open
+    ∷ live (overall 13 0 None leaves6) (reads 0 1 (pos 5) ∷ []) 0 is Open
+    ∷ live (overall 13 0 None leaves6) (reads 0 1 (pos 6) ∷ []) 0 is Fulfilled 1
+    ∷ live (overall 13 0 None leaves_none) [] 0 is Violated 0
+    ∷ live (overall 14 0 None leaves_none) [] 0 is Fulfilled 0
+    ∷ live (overall 15 0 None leaves_none) [] 0 is Violated 0
+    ∷ live (overall 16 0 None leaves_none) [] 0 is Violated 0
+    ∷ live (overall 13 0 None leaves_none) (reads 0 1 (pos 6) ∷ []) 0 is Violated 0
     ∷ []

@@ -1,7 +1,7 @@
 -- Cases of takes and clock notices: what they are refused for, what a list of them comes to, and
 -- what a notice decides.
-use Rattle.std.specs.Prelude.{List, [], ◌∷◌, map, ℕ}
-use Rattle.declare.specs.Types.{Event, Never, At, Open, Fulfilled, Violated}
+use Rattle.std.specs.Prelude.{List, [], ◌∷◌, map, ℕ, None, Some}
+use Rattle.declare.specs.Types.{Event, Open, Fulfilled, Violated}
 use Rattle.declare.specs.Answers.{Answer, accepted, refused}
 use Rattle.declare.specs.Steps.{Call, takes, notices, admits, course, taken}
 use Rattle.declare.specs.EdgeCycles.{Case, ◌is◌, always, rule, window, event, noticed, soon}
@@ -77,24 +77,24 @@ lapses =
     ∷ noticed soon (event 0 1 ∷ event 500 9 ∷ []) 1 1 is Violated 0
     ∷ noticed soon (event 0 1 ∷ event 1 9 ∷ []) 500 1 is Violated 0
     -- not response is fulfilled then
-    ∷ noticed (rule 9 2 (window 0 (At 500)) always) (event 0 1 ∷ []) 499 1 is Open
-    ∷ noticed (rule 9 2 (window 0 (At 500)) always) (event 0 1 ∷ []) 500 1 is Fulfilled 0
+    ∷ noticed (rule 9 2 (window 0 (Some 500)) always) (event 0 1 ∷ []) 499 1 is Open
+    ∷ noticed (rule 9 2 (window 0 (Some 500)) always) (event 0 1 ∷ []) 500 1 is Fulfilled 0
     -- chain response at the last position, whose next event is still to come
-    ∷ noticed (rule 4 2 (window 0 (At 500)) always) (event 0 1 ∷ []) 499 1 is Open
-    ∷ noticed (rule 4 2 (window 0 (At 500)) always) (event 0 1 ∷ []) 500 1 is Violated 0
+    ∷ noticed (rule 4 2 (window 0 (Some 500)) always) (event 0 1 ∷ []) 499 1 is Open
+    ∷ noticed (rule 4 2 (window 0 (Some 500)) always) (event 0 1 ∷ []) 500 1 is Violated 0
     -- a notice stands between no neighbours
-    ∷ noticed (rule 4 2 (window 0 (At 500)) always) (event 0 1 ∷ event 1 2 ∷ []) 500 1 is Fulfilled 2
+    ∷ noticed (rule 4 2 (window 0 (Some 500)) always) (event 0 1 ∷ event 1 2 ∷ []) 500 1 is Fulfilled 2
     -- without an end a window stays open, to the last time there is
-    ∷ noticed (rule 2 2 (window 0 Never) always) (event 0 1 ∷ []) 4294967295 1 is Open
-    ∷ noticed (rule 2 2 (window 4294967295 Never) always) (event 0 1 ∷ []) 4294967295 1 is Open
+    ∷ noticed (rule 2 2 (window 0 None) always) (event 0 1 ∷ []) 4294967295 1 is Open
+    ∷ noticed (rule 2 2 (window 4294967295 None) always) (event 0 1 ∷ []) 4294967295 1 is Open
     -- at position 0: the window from the first event
-    ∷ noticed (overall 13 0 (At 500) always) (event 100 9 ∷ []) 599 0 is Open
-    ∷ noticed (overall 13 0 (At 500) always) (event 100 9 ∷ []) 600 0 is Violated 0
-    ∷ noticed (overall 14 0 (At 500) always) (event 100 9 ∷ []) 600 0 is Fulfilled 0
+    ∷ noticed (overall 13 0 (Some 500) always) (event 100 9 ∷ []) 599 0 is Open
+    ∷ noticed (overall 13 0 (Some 500) always) (event 100 9 ∷ []) 600 0 is Violated 0
+    ∷ noticed (overall 14 0 (Some 500) always) (event 100 9 ∷ []) 600 0 is Fulfilled 0
     -- and without events, if the first one comes too late for a
-    ∷ noticed (overall 13 95 (At 100) always) [] 4294967200 0 is Open
-    ∷ noticed (overall 13 95 (At 100) always) [] 4294967201 0 is Violated 0
-    ∷ noticed (overall 14 95 (At 100) always) [] 4294967201 0 is Fulfilled 0
-    ∷ noticed (overall 15 95 (At 100) always) [] 4294967201 0 is Violated 0
-    ∷ noticed (overall 16 95 (At 100) always) [] 4294967201 0 is Violated 0
+    ∷ noticed (overall 13 95 (Some 100) always) [] 4294967200 0 is Open
+    ∷ noticed (overall 13 95 (Some 100) always) [] 4294967201 0 is Violated 0
+    ∷ noticed (overall 14 95 (Some 100) always) [] 4294967201 0 is Fulfilled 0
+    ∷ noticed (overall 15 95 (Some 100) always) [] 4294967201 0 is Violated 0
+    ∷ noticed (overall 16 95 (Some 100) always) [] 4294967201 0 is Violated 0
     ∷ []

@@ -1,6 +1,6 @@
 -- Cases of comparisons and conditions.
-use Rattle.std.specs.Prelude.{Bool, true, false, List, [], ◌∷◌, ℕ, ℤ, pos, negsuc}
-use Rattle.declare.specs.Types.{Value, Event, Operator, Equal, NotEqual, Less, AtMost, Greater, AtLeast, Constant, Activation, Condition}
+use Rattle.std.specs.Prelude.{Bool, true, false, List, [], ◌∷◌, ℕ, ℤ, pos, negsuc, Some}
+use Rattle.declare.specs.Types.{Event, Operator, Equal, NotEqual, Less, AtMost, Greater, AtLeast, Constant, Activation, Condition}
 use Rattle.declare.specs.Conditions.{tests_of, met}
 use Rattle.declare.specs.Reachability.{satisfiable}
 use Rattle.declare.specs.EdgeCycles.{compare, always, when, event, reads}
@@ -93,10 +93,10 @@ four =
     record {
       time = 0;
       activity = 1;
-      reading1 = Value (pos 11);
-      reading2 = Value (pos 12);
-      reading3 = Value (pos 13);
-      reading4 = Value (pos 14);
+      reading1 = Some (pos 11);
+      reading2 = Some (pos 12);
+      reading3 = Some (pos 13);
+      reading4 = Some (pos 14);
     }
 
 abbrev pub each : ℕ → ℤ → ℤ → ℤ → ℤ → Condition

@@ -1,6 +1,6 @@
 -- Cases of limits and refusals.
-use Rattle.std.specs.Prelude.{true, false, List, [], ◌∷◌, map, ℕ, pos, negsuc}
-use Rattle.declare.specs.Types.{Blank, Value, Equal, Less, Constant, Activation, Condition, End, Never, At, Rule, Table, FieldCount, NumberForm, OutOfRange, ComparisonForm, EmptyWindow, TimeFalls, TooMany, WrongPhase, NotFound, InvalidRecord, NoLineEnd, NoFile, TallyOverflow, BufferTooShort, TemplateMismatch, TooManyComparisons}
+use Rattle.std.specs.Prelude.{true, false, List, [], ◌∷◌, map, ℕ, pos, negsuc, None, Some}
+use Rattle.declare.specs.Types.{Equal, Less, Constant, Activation, Condition, End, Rule, Table, FieldCount, NumberForm, OutOfRange, ComparisonForm, EmptyWindow, TimeFalls, TooMany, WrongPhase, NotFound, InvalidRecord, NoLineEnd, NoFile, TallyOverflow, BufferTooShort, TemplateMismatch, TooManyComparisons}
 use Rattle.declare.specs.Events.{well_formed, non_falling}
 use Rattle.declare.specs.Rules.{valid_rule, valid_table}
 use Rattle.declare.specs.Continuations.{continuation}
@@ -17,7 +17,7 @@ limited code activation target a b =
 
 abbrev pub overall : ℕ → Condition → Condition → Rule
 overall code condition correlation =
-    record { code = code; activation = 1; target = 2; window = window 0 Never; condition = condition; correlation = correlation }
+    record { code = code; activation = 1; target = 2; window = window 0 None; condition = condition; correlation = correlation }
 
 abbrev pub conditioned : Condition → Condition → Rule
 conditioned condition correlation = overall 2 condition correlation
@@ -58,25 +58,25 @@ limits =
     ∷ well_formed (reads 0 1 MAX) gives true
     ∷ well_formed (reads 0 1 (negsuc 2147483648)) gives false
     ∷ well_formed (reads 0 1 (pos 2147483648)) gives false
-    ∷ well_formed (record { time = 0; activity = 1; reading1 = Blank; reading2 = Blank; reading3 = Blank; reading4 = Value (pos 2147483648) }) gives false
-    ∷ valid_rule (limited 0 1 1 0 Never) gives false
-    ∷ valid_rule (limited 1 1 1 0 Never) gives true
-    ∷ valid_rule (limited 12 64 64 0 Never) gives true
-    ∷ valid_rule (limited 13 1 2 0 Never) gives true
-    ∷ valid_rule (limited 16 1 2 0 Never) gives true
-    ∷ valid_rule (limited 17 1 2 0 Never) gives false
-    ∷ valid_rule (limited 1 0 1 0 Never) gives false
-    ∷ valid_rule (limited 1 65 1 0 Never) gives false
-    ∷ valid_rule (limited 1 1 0 0 Never) gives false
-    ∷ valid_rule (limited 1 1 65 0 Never) gives false
-    ∷ valid_rule (limited 1 1 1 4294967295 Never) gives true
-    ∷ valid_rule (limited 1 1 1 4294967296 Never) gives false
-    ∷ valid_rule (limited 1 1 1 5 (At 6)) gives true
-    ∷ valid_rule (limited 1 1 1 5 (At 5)) gives false
-    ∷ valid_rule (limited 1 1 1 6 (At 5)) gives false
-    ∷ valid_rule (limited 1 1 1 0 (At 0)) gives false
-    ∷ valid_rule (limited 1 1 1 0 (At 4294967295)) gives true
-    ∷ valid_rule (limited 1 1 1 0 (At 4294967296)) gives false
+    ∷ well_formed (record { time = 0; activity = 1; reading1 = None; reading2 = None; reading3 = None; reading4 = Some (pos 2147483648) }) gives false
+    ∷ valid_rule (limited 0 1 1 0 None) gives false
+    ∷ valid_rule (limited 1 1 1 0 None) gives true
+    ∷ valid_rule (limited 12 64 64 0 None) gives true
+    ∷ valid_rule (limited 13 1 2 0 None) gives true
+    ∷ valid_rule (limited 16 1 2 0 None) gives true
+    ∷ valid_rule (limited 17 1 2 0 None) gives false
+    ∷ valid_rule (limited 1 0 1 0 None) gives false
+    ∷ valid_rule (limited 1 65 1 0 None) gives false
+    ∷ valid_rule (limited 1 1 0 0 None) gives false
+    ∷ valid_rule (limited 1 1 65 0 None) gives false
+    ∷ valid_rule (limited 1 1 1 4294967295 None) gives true
+    ∷ valid_rule (limited 1 1 1 4294967296 None) gives false
+    ∷ valid_rule (limited 1 1 1 5 (Some 6)) gives true
+    ∷ valid_rule (limited 1 1 1 5 (Some 5)) gives false
+    ∷ valid_rule (limited 1 1 1 6 (Some 5)) gives false
+    ∷ valid_rule (limited 1 1 1 0 (Some 0)) gives false
+    ∷ valid_rule (limited 1 1 1 0 (Some 4294967295)) gives true
+    ∷ valid_rule (limited 1 1 1 0 (Some 4294967296)) gives false
     -- `@` stands in a correlation only
     ∷ valid_rule (conditioned (when Equal (Constant (pos 0))) always) gives true
     ∷ valid_rule (conditioned (when Equal (Activation 1 (pos 0))) always) gives false
@@ -97,20 +97,20 @@ limits =
     ∷ valid_rule (conditioned always (counted 5)) gives false
     ∷ valid_rule (conditioned (counted 5) always) gives false
     -- under 15 and 16 the activities differ, under 13 to 16 there is no correlation
-    ∷ valid_rule (limited 12 1 1 0 Never) gives true
-    ∷ valid_rule (limited 13 1 1 0 Never) gives true
-    ∷ valid_rule (limited 14 1 1 0 Never) gives true
-    ∷ valid_rule (limited 15 1 1 0 Never) gives false
-    ∷ valid_rule (limited 16 1 1 0 Never) gives false
+    ∷ valid_rule (limited 12 1 1 0 None) gives true
+    ∷ valid_rule (limited 13 1 1 0 None) gives true
+    ∷ valid_rule (limited 14 1 1 0 None) gives true
+    ∷ valid_rule (limited 15 1 1 0 None) gives false
+    ∷ valid_rule (limited 16 1 1 0 None) gives false
     ∷ valid_rule (overall 13 (when Equal (Constant (pos 0))) always) gives true
     ∷ valid_rule (overall 13 always (when Equal (Constant (pos 0)))) gives false
     ∷ valid_rule (overall 14 always (when Equal (Constant (pos 0)))) gives false
     ∷ valid_rule (overall 15 always (when Equal (Constant (pos 0)))) gives false
     ∷ valid_rule (overall 16 always (when Equal (Constant (pos 0)))) gives false
     -- slots past a count are not read
-    ∷ valid_table (table 0 (limited 0 0 0 0 Never ∷ [])) gives true
-    ∷ valid_table (table 1 (limited 1 1 1 0 Never ∷ limited 0 0 0 0 Never ∷ [])) gives true
-    ∷ valid_table (table 2 (limited 1 1 1 0 Never ∷ limited 0 0 0 0 Never ∷ [])) gives false
+    ∷ valid_table (table 0 (limited 0 0 0 0 None ∷ [])) gives true
+    ∷ valid_table (table 1 (limited 1 1 1 0 None ∷ limited 0 0 0 0 None ∷ [])) gives true
+    ∷ valid_table (table 2 (limited 1 1 1 0 None ∷ limited 0 0 0 0 None ∷ [])) gives false
     ∷ valid_table (table 17 []) gives false
     -- times repeat, and do not fall
     ∷ non_falling (event 5 1 ∷ event 5 1 ∷ event 6 1 ∷ []) gives true

@@ -1,6 +1,6 @@
 -- Cases that tell the target nearest to the activation from the earliest and from the latest.
-use Rattle.std.specs.Prelude.{List, [], ◌∷◌, ℕ, suc}
-use Rattle.declare.specs.Types.{Event, Never, At, Rule, Open, Fulfilled, Violated}
+use Rattle.std.specs.Prelude.{List, [], ◌∷◌, ℕ, suc, None, Some}
+use Rattle.declare.specs.Types.{Event, Rule, Open, Fulfilled, Violated}
 use Rattle.declare.specs.Verdicts.{verdict}
 use Rattle.declare.specs.EdgeCycles.{Case, ◌is◌, always, window, rule, event, live}
 use Rattle.declare.specs.TemplateCases.{plain}
@@ -15,7 +15,7 @@ events activities = events_from 0 activities
 
 -- activation and target are the same activity
 abbrev pub itself : ℕ → Rule
-itself code = rule code 1 (window 0 Never) always
+itself code = rule code 1 (window 0 None) always
 
 unfoldable pub targets : List Case
 targets =
@@ -45,8 +45,8 @@ targets =
     ∷ verdict (itself 6) (events (1 ∷ 1 ∷ 1 ∷ [])) 3 is Fulfilled 2
     ∷ verdict (itself 3) (events (1 ∷ 1 ∷ 1 ∷ [])) 1 is Fulfilled 2
     -- window 2 to 4: those nearer by are not eligible
-    ∷ verdict (rule 5 2 (window 2 (At 4)) always) (events (2 ∷ 2 ∷ 2 ∷ 2 ∷ 2 ∷ 1 ∷ [])) 6 is Fulfilled 4
-    ∷ verdict (rule 2 2 (window 2 (At 4)) always) (events (1 ∷ 2 ∷ 2 ∷ 2 ∷ 2 ∷ 2 ∷ [])) 1 is Fulfilled 3
+    ∷ verdict (rule 5 2 (window 2 (Some 4)) always) (events (2 ∷ 2 ∷ 2 ∷ 2 ∷ 2 ∷ 1 ∷ [])) 6 is Fulfilled 4
+    ∷ verdict (rule 2 2 (window 2 (Some 4)) always) (events (1 ∷ 2 ∷ 2 ∷ 2 ∷ 2 ∷ 2 ∷ [])) 1 is Fulfilled 3
     -- while the cycle runs: the same, and further events change nothing
     ∷ live (plain 1) (events (2 ∷ 2 ∷ 1 ∷ [])) 3 is Fulfilled 2
     ∷ live (plain 1) (events (2 ∷ 2 ∷ 1 ∷ 2 ∷ [])) 3 is Fulfilled 2

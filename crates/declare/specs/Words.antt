@@ -1,7 +1,7 @@
 -- The sentences of document 01, and of document 02 where a card changed one, as statements over
 -- positions, beside the definitions that compute. Each record is proved in proofs/Words.
-use Rattle.std.specs.Prelude.{◌≡◌, ◌↔◌, ◌⊎◌, true, false, cond, ◌&&◌, List, ◌++◌, ℕ, zero, suc, ◌+◌, ◌≤◌, ◌<◌, eqb, length}
-use Rattle.declare.specs.Types.{Event, Test, End, Never, At, Rule, Standing, Idle, Open, Fulfilled, Violated}
+use Rattle.std.specs.Prelude.{◌≡◌, ◌↔◌, ◌⊎◌, true, false, cond, ◌&&◌, List, ◌++◌, ℕ, zero, suc, ◌+◌, ◌≤◌, ◌<◌, eqb, length, None, Some}
+use Rattle.declare.specs.Types.{Event, Test, End, Rule, Standing, Idle, Open, Fulfilled, Violated}
 use Rattle.declare.specs.Lists.{all}
 use Rattle.declare.specs.Comparisons.{passes}
 use Rattle.declare.specs.Conditions.{met}
@@ -21,8 +21,8 @@ NeverFall es = (k : ℕ) → 1 ≤ k → k < length es → (event_at es k).time 
 
 -- "up to but without b, or no end"
 abbrev pub Before : ℕ → End → Type 0
-Before d Never = Unit {0}
-Before d (At b) = d < b
+Before d None = Unit {0}
+Before d (Some b) = d < b
 
 -- "event j suits activation i if it has the target activity, meets the correlation against i's
 -- readings, and the later time of the two minus the earlier is at least a and below b"

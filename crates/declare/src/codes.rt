@@ -3,20 +3,20 @@ ghost use Rattle.std.specs.Prelude.{◌≡◌};
 ghost use Rattle.declare.specs.Rules.{is_overall_rule};
 ghost use Rattle.declare.specs.Overall.{is_overall, overall_of, counts_target};
 
-use crate::numbers::less_one;
 use crate::{FIRST_OVERALL, LAST_TEMPLATE, Overall, RULES, Table};
 
+#[tactic(auto, unfolding(crate::specs::Overall::is_overall))]
 pub fn is_overall(code: u8) -> bool
     ensures { result ≡ is_overall code }
 {
-    (FIRST_OVERALL <= code) & (code <= LAST_TEMPLATE)
+    (FIRST_OVERALL..=LAST_TEMPLATE).contains(&code)
 }
 
 // Whether the table has a rule k, about the cycle as such.
 pub fn is_overall_rule(table: Table, k: usize) -> bool
     ensures { result ≡ is_overall_rule table k }
 {
-    let p = less_one(k);
+    let p = k.saturating_sub(1);
     if (table.count < k) | (RULES <= p) {
         return false;
     }
@@ -24,7 +24,9 @@ pub fn is_overall_rule(table: Table, k: usize) -> bool
     is_overall(rule.code)
 }
 
-// The template of such a code.
+// The template of such a code. A code is a number in a record, since a record may hold any (11);
+// `overall_of` says something of each, so this is no TryFrom.
+#[tactic(auto, unfolding(crate::specs::Overall::overall_of))]
 pub fn overall_of(code: u8) -> Overall
     ensures { result ≡ overall_of code }
 {
@@ -40,10 +42,5 @@ pub fn overall_of(code: u8) -> Overall
 pub fn counts_target(overall: Overall) -> bool
     ensures { result ≡ counts_target overall }
 {
-    match overall {
-        Overall::Existence => false,
-        Overall::Absence => false,
-        Overall::Choice => true,
-        Overall::ExclusiveChoice => true,
-    }
+    matches!(overall, Overall::Choice | Overall::ExclusiveChoice)
 }

@@ -1,5 +1,6 @@
 -- The causes of each call on records are read off its definition, check by check. So are those of
 -- each line of a text (Lines), and a reader goes from line to line (Texts).
+use Rattle.std.specs.Prelude.{Result}
 use mathlib.Core.Path.{◌≡◌, refl, sym, ap, ◌∙◌}
 use mathlib.Core.Logic.{◌↔◌}
 use mathlib.Core.Bool.{Bool, true, not, ◌&&◌}
@@ -11,13 +12,14 @@ use lib.ListN.{length}
 use Rattle.declare.specs.declared.Event.{Event}
 use Rattle.declare.specs.declared.Rule.{Rule}
 use Rattle.declare.specs.declared.Table.{Table}
+use Rattle.declare.specs.declared.Refusal.{Refusal}
 use Rattle.declare.specs.declared.Refusal.TheVariants.{OutOfRange, TimeFalls, TooMany, WrongPhase, NotFound, InvalidRecord, TallyOverflow, BufferTooShort}
 use Rattle.declare.specs.Lists.{any}
 use Rattle.declare.specs.Limits.{most_events}
 use Rattle.declare.specs.Events.{latest, well_formed}
 use Rattle.declare.specs.Rules.{rules_of, valid_table}
 use Rattle.declare.specs.Refusals.{number_of}
-use Rattle.declare.specs.Answers.{Answer, accepted, refused, ◌>>=◌, after_call}
+use Rattle.declare.specs.Answers.{Answer, accepted, refused, ◌>>=◌, after_call, answer_of}
 use Rattle.declare.specs.Steps.{Call, takes, notices, admits}
 use Rattle.declare.proofs.Lists.{leb_not, ltb_not}
 use Rattle.declare.proofs.Answers.{of_of, required, after_refused}
@@ -30,15 +32,13 @@ use Rattle.run.specs.Close.{close_of}
 use Rattle.run.specs.Queries.{one_of, is_position, standing_of, totals_of}
 use Rattle.tally.specs.declared.Tally.{Tally}
 use Rattle.tally.specs.declared.Counted.{Counted}
-use Rattle.tally.specs.declared.Outcome.{Outcome}
 use Rattle.tally.specs.Tally.{has_room_for, counts_of, with_totals, with_counted, absorb_of, tally_answer, Counts, Absorbs}
 use Rattle.line.specs.Texts.{Records, All, Stop}
 use Rattle.cycle_text.specs.Cycle.{event_after, cycle_text_of}
 use Rattle.cycle_text.specs.Written.{events_text}
 use Rattle.rule_text.specs.Rules.{rule_after, rules_text_of}
 use Rattle.rule_text.specs.Written.{rules_text}
-use Rattle.buffer.specs.declared.WriteAnswer.{WriteAnswer}
-use Rattle.buffer.specs.Writes.{write_of, buffer_after, write_answer, Writes}
+use Rattle.buffer.specs.Writes.{write_of, buffer_after, Writes}
 use Rattle.printing.specs.Report.{report_of, printed_of}
 use Rattle.line.proofs.Texts.{stop_all}
 use Rattle.notebook.specs.declared.Text.{Text}
@@ -122,7 +122,7 @@ module _ (r : Run) where
         has_then (counts_of r rule) (with_totals t) _ _ has_counts
         (λ c e. rw (← counts_are c e) (has_one (has_room_for t (totals_in r rule)) TallyOverflow 14 _ [] refl (has_none _)))
 
-absorb_counted : (r : Run) (rule : ℕ) (c : Counted) (before next : Tally) (o : Outcome) → Counts r rule c → Absorbs before c next o → (tally_answer next o ≡ absorb_of r rule before) × (next ≡ after_call before (absorb_of r rule before))
+absorb_counted : (r : Run) (rule : ℕ) (c : Counted) (before next : Tally) (o : Result (Unit {0}) Refusal) → Counts r rule c → Absorbs before c next o → (tally_answer next o ≡ absorb_of r rule before) × (next ≡ after_call before (absorb_of r rule before))
 unfolding absorb_of with_counted
 absorb_counted r rule c before next o p q =
     let e : (counts_of r rule >>= with_totals before) ≡ with_counted before c = ap (λ (x : Answer Totals). x >>= with_totals before) (sym p.answers) in
@@ -139,7 +139,7 @@ has_write valid text buffer =
 refuses_write : (valid : Bool) (text buffer : List ℕ) → Refuses (write_causes valid text buffer) (write_of valid text buffer)
 refuses_write valid text buffer = refuses (write_of valid text buffer) (write_causes valid text buffer) (has_write valid text buffer)
 
-buffer_kept : (valid : Bool) (text before after : List ℕ) (answer : WriteAnswer) (n : ℕ) → Writes valid text before after answer → write_answer answer ≡ refused n → after ≡ before
+buffer_kept : (valid : Bool) (text before after : List ℕ) (answer : Result ℕ Refusal) (n : ℕ) → Writes valid text before after answer → answer_of answer ≡ refused n → after ≡ before
 unfolding buffer_after
 buffer_kept valid text before after answer n w e =
     w.leaves ∙ ap (buffer_after text before) (sym w.answers ∙ e)

@@ -1,5 +1,6 @@
 -- The causes of a field, and what its reader makes of them: each check of the reader is the cause
 -- of the same place.
+use Rattle.std.specs.Prelude.{None, Some, Result, Ok, Err}
 use mathlib.Core.Path.{◌≡◌, refl, sym, ap, ◌∙◌}
 use mathlib.Core.Bool.{Bool, true, false, not, cond, ◌&&◌, ◌||◌, and-false, or-false, false≢true}
 use mathlib.Core.List.{List, [], ◌∷◌, ◌++◌}
@@ -10,13 +11,10 @@ use lib.Signed.{le_z}
 use lib.ListN.{length, get_or, drop, length-append}
 use lib.Seq.{get_or-drop, drop-drop}
 use borrow.Author.Tests.{eqb-true}
-use Rattle.declare.specs.declared.Reading.TheVariants.{Blank}
-use Rattle.declare.specs.declared.End.{End}
-use Rattle.declare.specs.declared.End.TheVariants.{Never, At}
+use Rattle.declare.specs.Types.{End}
 use Rattle.declare.specs.declared.Operator.TheVariants.{Equal, NotEqual, Less, AtMost, Greater, AtLeast}
 use Rattle.declare.specs.declared.Reference.TheVariants.{Constant, Activation}
 use Rattle.declare.specs.declared.Comparison.{Comparison}
-use Rattle.declare.specs.declared.Operand.TheVariants.{Exact}
 use Rattle.declare.specs.declared.Rule.{Rule}
 use Rattle.declare.specs.declared.Refusal.{Refusal}
 use Rattle.declare.specs.declared.Refusal.TheVariants.{NumberForm, OutOfRange, ComparisonForm, EmptyWindow, TooManyComparisons}
@@ -28,14 +26,12 @@ use Rattle.declare.specs.Refusals.{number_of}
 use Rattle.declare.proofs.Booleans.{fails}
 use Rattle.declare.proofs.Lists.{ltb_not}
 use Rattle.declare.proofs.OverallWords.{of_overall_lem}
+use Rattle.number.specs.declared.Fault.{Fault}
 use Rattle.number.specs.declared.Fault.TheVariants.{Form, Range}
-use Rattle.number.specs.declared.NaturalAnswer.TheVariants.{Natural, NoNatural}
-use Rattle.number.specs.declared.IntegerAnswer.{IntegerAnswer}
-use Rattle.number.specs.declared.IntegerAnswer.TheVariants.{Integer, NoInteger}
 use Rattle.number.specs.Number.{digit, zero_alone, positive, negative, natural_form, integer_form, dash, value_of, integer_value, natural_of, integer_of, in_signed_range, in_natural_range}
 use Rattle.line.specs.Fields.{split}
 use Rattle.declare.specs.Answers.{Answer, accepted, refused, ◌>>=◌, ◌>>◌, require}
-use Rattle.line.specs.Values.{fault_number, natural_answer, number_field, integer_answer, reading_field}
+use Rattle.line.specs.Values.{natural_answer, number_field, integer_answer, reading_field}
 use Rattle.declare.proofs.Answers.{no_of, of_of, through}
 use Rattle.rule_text.specs.Comparisons.{reading_digit, digit_of, operator_of, k_number, k_answer, k_field, constant_field, activation_field, reference_field, comparison_field}
 use Rattle.rule_text.specs.Conditions.{comma, comparisons_after, condition_of, comparisons_field, condition_field}
@@ -69,56 +65,56 @@ has_dash field a x causes h = go (dash field)
 -- ---- fields
 
 pub has_number : (low high : ℕ) (field : List ℕ) → Has (number_field low high field) (number_causes low high field)
-unfolding number_field natural_answer natural_of in_natural_range fault_number checked in_order require ◌>>◌ number_causes number_of
+unfolding number_field natural_of in_natural_range checked in_order require ◌>>◌ number_causes number_of
 has_number low high field = go (natural_form field) (leb low (value_of field) && leb (value_of field) high)
   where
-    go : (f r : Bool) → checked (natural_answer (cond f (cond r (Natural (value_of field)) (NoNatural Range)) (NoNatural Form))) ≡ in_order (cause NumberForm (not f) ∷ cause OutOfRange (not r) ∷ [])
+    go : (f r : Bool) → checked (natural_answer (cond f (cond r (Ok (value_of field)) (Err Range)) (Err Form))) ≡ in_order (cause NumberForm (not f) ∷ cause OutOfRange (not r) ∷ [])
     go false r = refl
     go true false = refl
     go true true = refl
 
 pub number_value : (low high : ℕ) (field : List ℕ) (v : ℕ) → number_field low high field ≡ accepted v → v ≡ value_of field
-unfolding number_field natural_answer natural_of in_natural_range
+unfolding number_field natural_of in_natural_range
 number_value low high field v = go (natural_form field) (leb low (value_of field) && leb (value_of field) high)
   where
-    go : (f r : Bool) → natural_answer (cond f (cond r (Natural (value_of field)) (NoNatural Range)) (NoNatural Form)) ≡ accepted v → v ≡ value_of field
+    go : (f r : Bool) → natural_answer (cond f (cond r (Ok (value_of field)) (Err Range)) (Err Form)) ≡ accepted v → v ≡ value_of field
     go false r e = absurd (no_of e)
     go true false e = absurd (no_of e)
     go true true e = sym (of_of e)
 
 -- a signed number; the cause of a wrong form is 2 of a reading, 4 of k
-has_signed : {A : Type 0} (form : Refusal) (x : IntegerAnswer → Answer A) (field : List ℕ) → ((z : ℤ) → checked (x (Integer z)) ≡ accepted tt) → checked (x (NoInteger Form)) ≡ refused (number_of form) → checked (x (NoInteger Range)) ≡ refused (number_of OutOfRange) → Has (x (integer_of field)) (cause form (not (integer_form field)) ∷ cause OutOfRange (not (in_range (Exact (integer_value field)))) ∷ [])
+has_signed : {A : Type 0} (form : Refusal) (x : Result ℤ Fault → Answer A) (field : List ℕ) → ((z : ℤ) → checked (x (Ok z)) ≡ accepted tt) → checked (x (Err Form)) ≡ refused (number_of form) → checked (x (Err Range)) ≡ refused (number_of OutOfRange) → Has (x (integer_of field)) (cause form (not (integer_form field)) ∷ cause OutOfRange (not (in_range (Some (integer_value field)))) ∷ [])
 unfolding integer_of in_signed_range in_range least greatest in_order require ◌>>◌
 has_signed form x field value malformed outside = go (integer_form field) (le_z (negsuc 2147483647) (integer_value field) && le_z (integer_value field) (pos 2147483647))
   where
-    go : (f r : Bool) → checked (x (cond f (cond r (Integer (integer_value field)) (NoInteger Range)) (NoInteger Form))) ≡ in_order (cause form (not f) ∷ cause OutOfRange (not r) ∷ [])
+    go : (f r : Bool) → checked (x (cond f (cond r (Ok (integer_value field)) (Err Range)) (Err Form))) ≡ in_order (cause form (not f) ∷ cause OutOfRange (not r) ∷ [])
     go false r = malformed
     go true false = outside
     go true true = value (integer_value field)
 
 pub has_reading : (field : List ℕ) → Has (reading_field field) (reading_causes field)
-unfolding reading_field reading_causes integer_answer fault_number checked number_of
+unfolding reading_field reading_causes checked number_of
 has_reading field =
-    has_dash field Blank (integer_answer (integer_of field)) (cause NumberForm (not (integer_form field)) ∷ cause OutOfRange (not (in_range (Exact (integer_value field)))) ∷ []) (has_signed NumberForm integer_answer field (λ z. refl) refl refl)
+    has_dash field None (integer_answer (integer_of field)) (cause NumberForm (not (integer_form field)) ∷ cause OutOfRange (not (in_range (Some (integer_value field)))) ∷ []) (has_signed NumberForm integer_answer field (λ z. refl) refl refl)
 
-has_k : (field : List ℕ) → Has (k_field field) (cause ComparisonForm (not (integer_form field)) ∷ cause OutOfRange (not (in_range (Exact (integer_value field)))) ∷ [])
+has_k : (field : List ℕ) → Has (k_field field) (cause ComparisonForm (not (integer_form field)) ∷ cause OutOfRange (not (in_range (Some (integer_value field)))) ∷ [])
 unfolding k_field k_answer k_number checked number_of
 has_k field = has_signed ComparisonForm k_answer field (λ z. refl) refl refl
 
 pub has_until : (field : List ℕ) → Has (end_field field) (unless_dash field (number_causes 1 4294967295 field))
 unfolding end_field
-has_until field = has_dash field Never _ (number_causes 1 4294967295 field) (has_made (number_field 1 4294967295 field) At (number_causes 1 4294967295 field) (has_number 1 4294967295 field))
+has_until field = has_dash field None _ (number_causes 1 4294967295 field) (has_made (number_field 1 4294967295 field) Some (number_causes 1 4294967295 field) (has_number 1 4294967295 field))
 
 -- "b not above a"
 pub has_above : {A : Type 0} (a : ℕ) (b : End) (field : List ℕ) (x : Answer A) (later : List Cause) → end_field field ≡ accepted b → Has x later → Has (require (is_above b a) 6 >> x) (unless_dash field (cause EmptyWindow (leb (value_of field) a) ∷ []) ++ later)
 unfolding end_field unless_dash is_above require ◌>>◌ number_of
 has_above a b field x later e h = go (dash field) e
   where
-    go : (t : Bool) → cond t (accepted Never) (number_field 1 4294967295 field >>= λ v. accepted (At v)) ≡ accepted b → Has (require (is_above b a) 6 >> x) (cond t [] (cause EmptyWindow (leb (value_of field) a) ∷ []) ++ later)
+    go : (t : Bool) → cond t (accepted None) (number_field 1 4294967295 field >>= λ v. accepted (Some v)) ≡ accepted b → Has (require (is_above b a) 6 >> x) (cond t [] (cause EmptyWindow (leb (value_of field) a) ∷ []) ++ later)
     go true e = rw (← of_of e) h
     go false e =
-        let v = through (number_field 1 4294967295 field) (λ v. accepted (At v)) b e in
-        let q : At (value_of field) ≡ b = sym (ap At (number_value 1 4294967295 field v.value v.first)) ∙ of_of v.rest in
+        let v = through (number_field 1 4294967295 field) (λ v. accepted (Some v)) b e in
+        let q : Some (value_of field) ≡ b = sym (ap Some (number_value 1 4294967295 field v.value v.first)) ∙ of_of v.rest in
         rw (← q, ltb_not a (value_of field)) (has_unless (leb (value_of field) a) EmptyWindow 6 x later refl h)
 
 -- ---- the template
@@ -171,7 +167,7 @@ has_digit : (b : ℕ) → Has (digit_of b) (cause ComparisonForm (not (reading_d
 unfolding digit_of number_of
 has_digit b = has_one (reading_digit b) ComparisonForm 4 (accepted (b - 48)) [] refl (has_none (b - 48))
 
-has_activation : (s : List ℕ) → Has (activation_field s) (cause ComparisonForm (not (reading_digit (get_or s 0 0) && eqb (get_or s 1 0) 58 && integer_form (drop 2 s))) ∷ cause OutOfRange (not (in_range (Exact (integer_value (drop 2 s))))) ∷ [])
+has_activation : (s : List ℕ) → Has (activation_field s) (cause ComparisonForm (not (reading_digit (get_or s 0 0) && eqb (get_or s 1 0) 58 && integer_form (drop 2 s))) ∷ cause OutOfRange (not (in_range (Some (integer_value (drop 2 s))))) ∷ [])
 unfolding activation_field number_of
 has_activation s =
     has_then (digit_of (get_or s 0 0)) _ (cause ComparisonForm (not digit) ∷ []) (cause ComparisonForm (not colon) ∷ cause ComparisonForm (not form) ∷ range ∷ []) (has_digit (get_or s 0 0))
@@ -189,21 +185,21 @@ has_activation s =
     form = integer_form (drop 2 s)
 
     range : Cause
-    range = cause OutOfRange (not (in_range (Exact (integer_value (drop 2 s)))))
+    range = cause OutOfRange (not (in_range (Some (integer_value (drop 2 s)))))
 
-has_reference : (correlation : Bool) (s : List ℕ) → Has (reference_field correlation s) (cause ComparisonForm (not (reference_form correlation s)) ∷ cause OutOfRange (not (in_range (Exact (integer_value (constant_in s))))) ∷ [])
+has_reference : (correlation : Bool) (s : List ℕ) → Has (reference_field correlation s) (cause ComparisonForm (not (reference_form correlation s)) ∷ cause OutOfRange (not (in_range (Some (integer_value (constant_in s))))) ∷ [])
 unfolding reference_field reference_form activation_form constant_in constant_field number_of
 has_reference correlation s = go (eqb (get_or s 0 0) 64) refl
   where
-    go : (t : Bool) → eqb (get_or s 0 0) 64 ≡ t → Has (reference_field correlation s) (cause ComparisonForm (not (reference_form correlation s)) ∷ cause OutOfRange (not (in_range (Exact (integer_value (constant_in s))))) ∷ [])
+    go : (t : Bool) → eqb (get_or s 0 0) 64 ≡ t → Has (reference_field correlation s) (cause ComparisonForm (not (reference_form correlation s)) ∷ cause OutOfRange (not (in_range (Some (integer_value (constant_in s))))) ∷ [])
     go true e =
-        let a : Has (activation_field (drop 1 s)) (cause ComparisonForm (not (reading_digit (get_or s 1 0) && eqb (get_or s 2 0) 58 && integer_form (drop 3 s))) ∷ cause OutOfRange (not (in_range (Exact (integer_value (drop 3 s))))) ∷ []) = rw (get_or-drop 1 s 0 0, get_or-drop 1 s 1 0, drop-drop 2 1 s) at (has_activation (drop 1 s)) in
+        let a : Has (activation_field (drop 1 s)) (cause ComparisonForm (not (reading_digit (get_or s 1 0) && eqb (get_or s 2 0) 58 && integer_form (drop 3 s))) ∷ cause OutOfRange (not (in_range (Some (integer_value (drop 3 s))))) ∷ []) = rw (get_or-drop 1 s 0 0, get_or-drop 1 s 1 0, drop-drop 2 1 s) at (has_activation (drop 1 s)) in
         rw (e, no_number s e)
         (has_one correlation ComparisonForm 4 (activation_field (drop 1 s)) _ refl a
         ∙ has_both ComparisonForm correlation (reading_digit (get_or s 1 0) && eqb (get_or s 2 0) 58 && integer_form (drop 3 s)) _)
     go false e = rw (e, and-false correlation, or-false (integer_form s)) (has_made (k_field s) Constant _ (has_k s))
 
-has_comparison : (correlation : Bool) (s : List ℕ) → Has (comparison_field correlation s) (cause ComparisonForm (not (comparison_form correlation s)) ∷ cause OutOfRange (not (in_range (Exact (integer_value (constant_in (drop 2 s)))))) ∷ [])
+has_comparison : (correlation : Bool) (s : List ℕ) → Has (comparison_field correlation s) (cause ComparisonForm (not (comparison_form correlation s)) ∷ cause OutOfRange (not (in_range (Some (integer_value (constant_in (drop 2 s)))))) ∷ [])
 unfolding comparison_field comparison_form
 has_comparison correlation s =
     has_then (digit_of (get_or s 0 0)) _ (cause ComparisonForm (not digit) ∷ []) (cause ComparisonForm (not operator) ∷ cause ComparisonForm (not form) ∷ range ∷ []) (has_digit (get_or s 0 0))
@@ -222,7 +218,7 @@ has_comparison correlation s =
     form = reference_form correlation (drop 2 s)
 
     range : Cause
-    range = cause OutOfRange (not (in_range (Exact (integer_value (constant_in (drop 2 s))))))
+    range = cause OutOfRange (not (in_range (Some (integer_value (constant_in (drop 2 s))))))
 
 -- ---- conditions
 
@@ -230,7 +226,7 @@ has_comparisons : (correlation : Bool) (above : List Comparison) (fields : List 
 unfolding comparisons_after comparison_causes number_of
 has_comparisons correlation above [] = has_none above
 has_comparisons correlation above (s ∷ fields) =
-    has_then (comparison_field correlation s) _ (cause ComparisonForm (not (comparison_form correlation s)) ∷ cause OutOfRange (not (in_range (Exact (integer_value (constant_in (drop 2 s)))))) ∷ []) (cause TooManyComparisons (leb 4 (length above)) ∷ comparison_causes correlation (length above + 1) fields) (has_comparison correlation s)
+    has_then (comparison_field correlation s) _ (cause ComparisonForm (not (comparison_form correlation s)) ∷ cause OutOfRange (not (in_range (Some (integer_value (constant_in (drop 2 s)))))) ∷ []) (cause TooManyComparisons (leb 4 (length above)) ∷ comparison_causes correlation (length above + 1) fields) (has_comparison correlation s)
     (λ c e. further c (has_comparisons correlation (above ++ (c ∷ [])) fields))
   where
     further : (c : Comparison) → Has (comparisons_after correlation (above ++ (c ∷ [])) fields) (comparison_causes correlation (length (above ++ (c ∷ []))) fields) → Has (require (ltb (length above) 4) 17 >> comparisons_after correlation (above ++ (c ∷ [])) fields) (cause TooManyComparisons (leb 4 (length above)) ∷ comparison_causes correlation (length above + 1) fields)

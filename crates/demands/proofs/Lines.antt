@@ -7,7 +7,7 @@ use Prim.Native.Nat.{ℕ, ◌+◌}
 use lib.Dec.{leb, ltb, eqb}
 use lib.ListN.{length, get_or}
 use Rattle.declare.specs.declared.Event.{Event}
-use Rattle.declare.specs.declared.End.{End}
+use Rattle.declare.specs.Types.{End}
 use Rattle.declare.specs.declared.Rule.{Rule}
 use Rattle.declare.specs.declared.Refusal.{Refusal}
 use Rattle.declare.specs.declared.Refusal.TheVariants.{FieldCount, EmptyWindow, TimeFalls, TooMany, TemplateMismatch}

@@ -1,5 +1,6 @@
 -- A line of the printed bytes is a line of the list that was written, because its fields have
 -- neither tab nor LF and tell it from every other line.
+use Rattle.std.specs.Prelude.{Ok}
 use mathlib.Core.Path.{◌≡◌, refl, sym, ap, ◌∙◌}
 use mathlib.Core.Bool.{Bool, true, false, true≢false}
 use mathlib.Core.List.{List, [], ◌∷◌, map}
@@ -8,7 +9,6 @@ use native.Mathlib.Omega.{arith}
 use borrow.Author.Tests.{ltb-true, ltb-false}
 use lib.Dec.{ltb}
 use lib.ListN.{length, get_or, length-map}
-use Rattle.number.specs.declared.NaturalAnswer.TheVariants.{Natural}
 use Rattle.number.specs.Number.{natural_of, none, digit, digits}
 use Rattle.number.specs.Written.{digits_of}
 use Rattle.number.proofs.Written.{written_digits, read_natural}
@@ -44,7 +44,7 @@ digits_same : (m n : ℕ) → digits_of m ≡ digits_of n → m ≡ n
 digits_same m n e =
     let a = read_natural 0 (m + n) m (omega arith) (omega arith) in
     let b = read_natural 0 (m + n) n (omega arith) (omega arith) in
-    let c : Natural m ≡ Natural n = sym a ∙ ap (natural_of 0 (m + n)) e ∙ b in
+    let c : Ok m ≡ Ok n = sym a ∙ ap (natural_of 0 (m + n)) e ∙ b in
     cc
 
 not_refused : (n : ℕ) → digits_of n ≡ refused_word → ⊥

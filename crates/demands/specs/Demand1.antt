@@ -5,15 +5,16 @@
 -- Each call on records has a list of causes, in the order of the documents. It is refused with the
 -- number of the first that holds, and accepted if none holds. So has each line of a text
 -- (LineCauses); a reader goes from line to line (Texts); the notebook reads the rules first.
-use Rattle.std.specs.Prelude.{◌≡◌, ◌↔◌, Bool, true, not, ◌&&◌, List, [], ◌∷◌, ℕ, leb, ltb, length}
+use Rattle.std.specs.Prelude.{◌≡◌, ◌↔◌, Bool, true, not, ◌&&◌, List, [], ◌∷◌, ℕ, leb, ltb, length, Result}
 use Rattle.declare.specs.declared.Event.{Event}
 use Rattle.declare.specs.declared.Rule.{Rule}
 use Rattle.declare.specs.declared.Table.{Table}
+use Rattle.declare.specs.declared.Refusal.{Refusal}
 use Rattle.declare.specs.declared.Refusal.TheVariants.{OutOfRange, TimeFalls, TooMany, WrongPhase, NotFound, InvalidRecord, TallyOverflow, BufferTooShort}
 use Rattle.declare.specs.Events.{latest, well_formed}
 use Rattle.declare.specs.Rules.{rules_of, valid_table}
 use Rattle.declare.specs.Limits.{most_events}
-use Rattle.declare.specs.Answers.{Answer, accepted, refused, after_call}
+use Rattle.declare.specs.Answers.{Answer, accepted, refused, after_call, answer_of}
 use Rattle.declare.specs.Steps.{Call}
 use Rattle.run.specs.declared.Run.{Run}
 use Rattle.run.specs.Records.{events_of, horizon_of, totals_in, valid_run}
@@ -23,15 +24,13 @@ use Rattle.run.specs.Close.{close_of}
 use Rattle.run.specs.Queries.{one_of, is_position, standing_of, totals_of}
 use Rattle.tally.specs.declared.Tally.{Tally}
 use Rattle.tally.specs.declared.Counted.{Counted}
-use Rattle.tally.specs.declared.Outcome.{Outcome}
 use Rattle.tally.specs.Tally.{has_room_for, absorb_of, tally_answer, Counts, Absorbs}
 use Rattle.line.specs.Texts.{All, Stop}
 use Rattle.cycle_text.specs.Cycle.{cycle_text_of}
 use Rattle.cycle_text.specs.Written.{events_text}
 use Rattle.rule_text.specs.Rules.{rules_text_of}
 use Rattle.rule_text.specs.Written.{rules_text}
-use Rattle.buffer.specs.declared.WriteAnswer.{WriteAnswer}
-use Rattle.buffer.specs.Writes.{write_answer, Writes}
+use Rattle.buffer.specs.Writes.{Writes}
 use Rattle.writer.specs.Writer.{write_rules_of, write_cycle_of}
 use Rattle.printing.specs.Report.{report_of, printed_of}
 use Rattle.printing.specs.Printing.{write_report_of, print_texts_of}
@@ -122,7 +121,7 @@ pub record Demand1 : Type 0 where
   pub totals : (r : Run) (rule : ℕ) → Refuses (totals_causes r rule) (totals_of r rule)
   pub absorb : (r : Run) (rule : ℕ) (t : Tally) → Refuses (absorb_causes r rule t) (absorb_of r rule t)
   -- in the code a tally absorbs what was counted of a rule
-  pub absorbs : (r : Run) (rule : ℕ) (c : Counted) (before next : Tally) (o : Outcome)
+  pub absorbs : (r : Run) (rule : ℕ) (c : Counted) (before next : Tally) (o : Result (Unit {0}) Refusal)
       → Counts r rule c
       → Absorbs before c next o
       → (tally_answer next o ≡ absorb_of r rule before) × (next ≡ after_call before (absorb_of r rule before))
@@ -142,9 +141,9 @@ pub record Demand1 : Type 0 where
       → absorb_of r rule t ≡ refused n
       → after_call t (absorb_of r rule t) ≡ t
   -- the buffer at exit, by the contract of the calls that write
-  pub buffer_keeps : (valid : Bool) (text before after : List ℕ) (answer : WriteAnswer) (n : ℕ)
+  pub buffer_keeps : (valid : Bool) (text before after : List ℕ) (answer : Result ℕ Refusal) (n : ℕ)
       → Writes valid text before after answer
-      → write_answer answer ≡ refused n
+      → answer_of answer ≡ refused n
       → after ≡ before
   -- the texts, with the numbers that their readers can give
   pub rules_text_lem : (text : List ℕ) → Reads rule_causes rules_text_of (1 ∷ 2 ∷ 3 ∷ 4 ∷ 6 ∷ 8 ∷ 12 ∷ 16 ∷ 17 ∷ []) text

@@ -2,10 +2,9 @@
 -- field 2 or 4, 3, 5 (in a condition comparison by comparison), then 6 or 7, then 8"; 16 "follows
 -- 6", and 17 stands "where 5 stood" (document 02). Each is a test of the line's own bytes and of the
 -- records above it.
-use Rattle.std.specs.Prelude.{Bool, true, false, not, cond, ◌&&◌, ◌||◌, List, [], ◌∷◌, ◌++◌, ℕ, ◌+◌, leb, ltb, eqb, length, get_or, drop}
+use Rattle.std.specs.Prelude.{Bool, true, false, not, cond, ◌&&◌, ◌||◌, List, [], ◌∷◌, ◌++◌, ℕ, ◌+◌, leb, ltb, eqb, length, get_or, drop, Some}
 use Rattle.declare.specs.declared.Event.{Event}
 use Rattle.declare.specs.declared.Rule.{Rule}
-use Rattle.declare.specs.declared.Operand.TheVariants.{Exact}
 use Rattle.declare.specs.declared.Refusal.TheVariants.{FieldCount, NumberForm, OutOfRange, ComparisonForm, EmptyWindow, TimeFalls, TooMany, TemplateMismatch, TooManyComparisons}
 use Rattle.declare.specs.Lists.{any}
 use Rattle.declare.specs.Limits.{most_comparisons, last_activity, last_template, most_rules, most_events}
@@ -39,7 +38,7 @@ unfoldable pub reading_causes : List ℕ → List Cause
 reading_causes field =
     unless_dash field
     (cause NumberForm (not (integer_form field))
-    ∷ cause OutOfRange (not (in_range (Exact (integer_value field))))
+    ∷ cause OutOfRange (not (in_range (Some (integer_value field))))
     ∷ [])
 
 -- ---- conditions
@@ -71,7 +70,7 @@ unfoldable pub comparison_causes : Bool → ℕ → List (List ℕ) → List Cau
 comparison_causes correlation before [] = []
 comparison_causes correlation before (s ∷ more) =
     cause ComparisonForm (not (comparison_form correlation s))
-    ∷ cause OutOfRange (not (in_range (Exact (integer_value (constant_in (drop 2 s))))))
+    ∷ cause OutOfRange (not (in_range (Some (integer_value (constant_in (drop 2 s))))))
     ∷ cause TooManyComparisons (leb most_comparisons before)
     ∷ comparison_causes correlation (before + 1) more
 

@@ -1,7 +1,7 @@
 -- What `report` prints, in words: of two accepted texts the verdicts of demand 2 and their counts,
 -- of refused ones the text, number and line of demand 1. The lines are those of the printed bytes,
 -- which by its contract print_texts writes and `report` hands to standard output.
-use Rattle.std.specs.Prelude.{◌≡◌, ◌↔◌, ◌⊎◌, true, false, List, [], ℕ, suc, ◌≤◌, ◌<◌, length, get_or, take}
+use Rattle.std.specs.Prelude.{◌≡◌, ◌↔◌, ◌⊎◌, true, false, List, [], ℕ, suc, ◌≤◌, ◌<◌, length, get_or, take, Ok}
 use Rattle.declare.specs.declared.Event.{Event}
 use Rattle.declare.specs.declared.Rule.{Rule}
 use Rattle.declare.specs.declared.Table.{Table}
@@ -22,7 +22,6 @@ use Rattle.cycle_text.specs.Cycle.{cycle_text_of}
 use Rattle.rule_text.specs.Rules.{rules_text_of}
 use Rattle.notebook.specs.declared.Text.{Text}
 use Rattle.notebook.specs.Notebook.{not_read, notebook_of}
-use Rattle.buffer.specs.declared.WriteAnswer.TheVariants.{Written}
 use Rattle.printing.specs.Lines.{PrintedLine, activation_line, total_line, refused_line, letter_f, letter_v, line_fields}
 use Rattle.printing.specs.Report.{word_of, printed_of}
 use Rattle.printing.specs.Printing.{printed_bytes, write_report_of, print_texts_of, PrintsTexts}
@@ -98,7 +97,7 @@ pub record PrintedRight (rules cycle text : List ℕ) : Type 0 where
 pub record Printed : Type 0 where
   pub right : (rules cycle : List ℕ) → PrintedRight rules cycle (printed_of rules cycle)
   -- and print_texts has written it: the first n bytes of the buffer, n the length returned
-  pub written : (rules cycle before after : List ℕ) (n : ℕ) → PrintsTexts rules cycle before after (Written n) → take n after ≡ printed_of rules cycle
+  pub written : (rules cycle before after : List ℕ) (n : ℕ) → PrintsTexts rules cycle before after (Ok n) → take n after ≡ printed_of rules cycle
   -- "the cycle file is opened after the rules are accepted": of refused ones it does not matter
   pub rules_first : (rules cycle other : List ℕ) → is_all (rules_text_of rules) ≡ false → printed_of rules cycle ≡ printed_of rules other
   -- a buffer of so many bytes is never too short, for any texts and any run

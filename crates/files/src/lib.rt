@@ -1,29 +1,22 @@
 // Files and standard output, for the programs that print.
 #![tactic(auto)]
 
-ghost use Rattle.std.specs.Prelude.{◌≡◌, true, length};
+ghost use Rattle.std.specs.Prelude.{◌≡◌, true, length, IfSome};
 ghost use Rattle.files.specs.Counts.{IsPrefixLen};
 ghost use Rattle.line.specs.Texts.{written_line};
-ghost use Rattle.buffer.specs.Puts.{Puts};
+ghost use Rattle.buffer.specs.Puts.{Put};
 ghost use Rattle.printing.specs.Lines.{refused_line, line_fields};
 
-use declare::{Refusal, number_of};
+use buffer::put::Output;
+use declare::Refusal;
 use printing::refused::put_refused;
 use std::fs::File;
 use std::io::Read;
 use std::rt::Files;
-use std::{io, str};
+use std::str;
 
 // The most bytes of a file.
 pub const FILE_BYTES: usize = 32768;
-
-// The first `length` bytes of the buffer are the file's, and `whole` says whether that is all of
-// the file.
-#[derive(Clone, Copy)]
-pub struct FileRead {
-    pub whole: bool,
-    pub length: usize,
-}
 
 // Reads until the buffer is full, the input ends or a read fails, and returns how many bytes it
 // put at the buffer's front.
@@ -50,27 +43,22 @@ fn at_end(file: &mut impl Read) -> bool {
 
 // The file of that name, opened for reading. Names are text to std, and one that is none names no
 // file.
-fn open<R: Files>(rt: &R, name: &[u8]) -> io::Result<R::File> {
-    match str::from_utf8(name) {
-        Ok(path) => File::open(rt, path),
-        Err(_) => Err(io::Error::from(io::ErrorKind::InvalidInput)),
-    }
+fn open<R: Files>(rt: &R, name: &[u8]) -> Option<R::File> {
+    let path = str::from_utf8(name).ok()?;
+    File::open(rt, path).ok()
 }
 
-// A file that is absent, cannot be read or does not fit is not read whole.
-fn read_file(rt: &impl Files, name: &[u8], text: &mut [u8; FILE_BYTES]) -> FileRead
-    ensures { IsPrefixLen result.length text.new }
+// The length of the file, whose bytes stand in front of the buffer. A file that is absent, cannot
+// be read or does not fit has none.
+fn read_file(rt: &impl Files, name: &[u8], text: &mut [u8; FILE_BYTES]) -> Option<usize>
+    ensures { IfSome result (λ length. IsPrefixLen length text.new) }
 {
-    match open(rt, name) {
-        Ok(mut file) => {
-            let length = read_full(&mut file, text);
-            let whole = at_end(&mut file);
-            FileRead { whole, length }
-        },
-        Err(_) => FileRead {
-            whole: false,
-            length: 0,
-        },
+    let mut file = open(rt, name)?;
+    let length = read_full(&mut file, text);
+    if at_end(&mut file) {
+        Some(length)
+    } else {
+        None
     }
 }
 
@@ -92,30 +80,36 @@ pub fn print(rt: &(impl Print + Eprint), bytes: &[u8]) -> bool
 }
 
 // The line of a file that is not read whole: 13, and line 0.
-fn put_unread(out: &mut [u8], word: &[u8]) -> usize
-    ensures { Puts (written_line line_fields (refused_line word.now 13 0)) out.old 0 out.new result }
+#[tactic(auto, unfolding(declare::specs::Refusals::number_of))]
+fn put_unread(out: &mut Output<'_>, word: &[u8])
+    ensures { Put (written_line line_fields (refused_line word.now 13 0)) out.old out.new }
 {
-    put_refused(out, word, number_of(Refusal::NoFile), 0)
+    put_refused(out, word, Refusal::NoFile.number(), 0);
 }
 
 fn print_unread(rt: &(impl Print + Eprint), word: &[u8]) {
     let mut line = [0u8; 64];
-    let length = put_unread(&mut line, word);
-    print(rt, &line[..length]);
+    let mut out = Output {
+        bytes: &mut line,
+        at: 0,
+    };
+    put_unread(&mut out, word);
+    let length = out.at;
+    print(rt, &out.bytes[..length]);
 }
 
-// The file of that name. If it is not read whole, its refusal is printed, with the word of its
-// text.
+// The length of the file of that name, whose bytes stand in front of the buffer. If it is not read
+// whole, its refusal is printed, with the word of its text.
 pub fn read_text(
     rt: &(impl Files + Print + Eprint),
     name: &[u8],
     word: &[u8],
     text: &mut [u8; FILE_BYTES],
-) -> FileRead
-    ensures { IsPrefixLen result.length text.new }
+) -> Option<usize>
+    ensures { IfSome result (λ length. IsPrefixLen length text.new) }
 {
     let read = read_file(rt, name, text);
-    if !read.whole {
+    if read.is_none() {
         print_unread(rt, word);
     }
     read

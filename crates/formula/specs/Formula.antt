@@ -1,8 +1,7 @@
 -- The logic of document 001, section 3.2, as far as its Table 2 goes: formulas, and Definition 3
 -- over a list of events.
-use Rattle.std.specs.Prelude.{◌≡◌, true, ◌&&◌, List, ℕ, ◌+◌, ◌-◌, ◌≤◌, ◌<◌, eqb, length}
+use Rattle.std.specs.Prelude.{◌≡◌, true, ◌&&◌, List, ℕ, ◌+◌, ◌-◌, ◌≤◌, ◌<◌, eqb, length, None}
 use Rattle.declare.specs.declared.Event.{Event}
-use Rattle.declare.specs.declared.End.TheVariants.{Never}
 use Rattle.declare.specs.declared.Window.{Window}
 use Rattle.declare.specs.declared.Rule.{Rule}
 use Rattle.declare.specs.Conditions.{met}
@@ -11,7 +10,7 @@ use Rattle.declare.specs.Suits.{occurs, is_activation, within, between, correlat
 
 -- [0, ∞), of an operator without an interval
 abbrev pub always : Window
-always = record { from = 0; until = Never }
+always = record { from = 0; until = None }
 
 pub data Formula : Type 0 where
   -- the event is an activation of the rule: A, and φ_a of the event's own readings

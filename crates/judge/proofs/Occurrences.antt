@@ -1,14 +1,14 @@
 -- The standing at position 0 from the first occurrence of each activity: which of them there is
 -- settles the formula, and the earlier is the target.
 use mathlib.Core.Path.{◌≡◌, refl, sym, subst, ◌∙◌, ap, ap₂}
-use mathlib.Core.Bool.{Bool, true, false, not, cond, ◌&&◌, ◌||◌, true≢false, false≢true}
-use mathlib.Core.List.{List, [], ◌∷◌}
+use mathlib.Core.Bool.{Bool, true, false, not, cond, ◌&&◌, ◌||◌, true≢false, false≢true, and_assoc}
+use mathlib.Core.List.{List}
 use Prim.Native.Nat.{ℕ, zero, suc, ◌+◌, ◌-◌, min, ◌≤◌, ◌<◌, zero-le}
 use native.Mathlib.Omega.{arith}
-use borrow.Author.Tests.{lt-ltb, le-ltb, ltb-true, ltb-false, ne_eqb, le-leb, lt-leb, leb-true, leb-false}
+use borrow.Author.Tests.{lt-ltb, le-ltb, ltb-true, ltb-false, le-leb, lt-leb, leb-true, leb-false}
 use lib.Dec.{leb, ltb, eqb}
 use lib.ListN.{length, get_or, take}
-use lib.Seq.{get_or-take, take_all}
+use lib.Seq.{take_all}
 use Rattle.declare.specs.declared.Event.{Event}
 use Rattle.declare.specs.declared.Rule.{Rule}
 use Rattle.declare.specs.declared.Table.{Table}
@@ -29,7 +29,7 @@ use Rattle.declare.specs.Standings.{is_decided}
 use Rattle.declare.specs.Steps.{carried}
 use Rattle.declare.specs.Words.{Names}
 use Rattle.declare.proofs.Booleans.{or_left, or_right}
-use Rattle.declare.proofs.Positions.{first_stays, first_cut, first_here, Earliest, earliest}
+use Rattle.declare.proofs.Positions.{Earliest, earliest}
 use Rattle.declare.proofs.Zero.{activation_zero, eligible_zero, decision_zero, undecided_zero}
 use Rattle.declare.proofs.Targets.{only_named}
 use Rattle.declare.proofs.Exactness.{verdict_is, standing_is}
@@ -39,67 +39,13 @@ use Rattle.standings.specs.Places.{overall_cell}
 use Rattle.judge.specs.Cells.{judged, judged_at}
 use Rattle.judge.specs.Occurrences.{earlier, target_occurrence}
 
--- ---- the loop over the events
+-- ---- the events
 
-pub first_taken : (h n : ℕ) (events : List Event) → (n ≡ 0 → ⊥) → 0 < length events → (get_or events 0 no_event).time ≡ first_time h (take n events)
-unfolding first_time
-first_taken h zero events some l = absurd (some refl)
-first_taken h (suc n) [] some l = absurd (omega arith)
-first_taken h (suc n) (e ∷ events) some l = refl
-
-pub first_begin : (p : ℕ → Bool) → first_up_to p 0 ≡ 0
-unfolding first_up_to
-first_begin p = refl
-
-module _ (r : Rule) (k n : ℕ) (events : List Event) (room : n ≤ length events) where
-  abbrev occurring : ℕ → Bool
-  occurring = occurs_at r (take n events) k
-
-  -- the event at place p
-  occurs_next : (p : ℕ) {first : ℕ} → p < n → first ≡ first_time 0 (take n events) → occurring (suc p) ≡ (occurs r k (get_or events p no_event) && within r.window (between first (get_or events p no_event).time))
-  unfolding occurs_at event_at
-  occurs_next p l e =
-      let z : suc p - 1 ≡ p = omega arith in
-      rw (z, get_or-take n events p no_event l, e) refl
-
-  -- of another activity, and of this one
-  pub occurs_other : (p : ℕ) → p < n → eqb (get_or events p no_event).activity k ≡ false → occurring (suc p) ≡ false
-  unfolding occurs
-  occurs_other p l other = occurs_next p l refl ∙ rw other
-
-  pub occurs_same : (p : ℕ) {first : ℕ} → p < n → first ≡ first_time 0 (take n events) → eqb (get_or events p no_event).activity k ≡ true → occurring (suc p) ≡ (met r.condition (get_or events p no_event) (get_or events p no_event) && within r.window (between first (get_or events p no_event).time))
-  unfolding occurs
-  occurs_same p l e same = occurs_next p l e ∙ rw same
-
-  pub occurs_here : (p : ℕ) → p < n → first_up_to occurring p ≡ 0 → occurring (suc p) ≡ true → suc p ≡ first_up_to occurring n
-  occurs_here p l none here = sym (first_stays occurring (suc p) n p l (first_here occurring p none here))
-
-  pub not_yet : (p : ℕ) → first_up_to occurring p ≡ 0 → occurring (suc p) ≡ false → first_up_to occurring (suc p) ≡ 0
-  not_yet p none here = first_cut occurring p (suc p) (omega arith) only ∙ none
-    where
-      only : (j : ℕ) → p < j → j ≤ suc p → occurring j ≡ false
-      only j a b = let e : j ≡ suc p = omega arith in rw e here
-
--- ---- the earlier of two
-
-pub earlier_first : (i j : ℕ) → (i ≡ 0 → ⊥) → (eqb j 0 || ltb i j) ≡ true → i ≡ earlier i j
-earlier_first zero j some h = absurd (some refl)
-earlier_first (suc i) zero some h = refl
-earlier_first (suc i) (suc j) some h =
-    let l : suc i < suc j = ltb-true (suc i) (suc j) (rw (ne_eqb (suc j) 0 (omega arith)) at h) in
-    omega arith
-
-pub earlier_second : (i j : ℕ) → (i ≡ 0 → ⊥) → (eqb j 0 || ltb i j) ≡ false → j ≡ earlier i j
-earlier_second zero j some h = absurd (some refl)
-earlier_second (suc i) zero some h = absurd (true≢false h)
-earlier_second (suc i) (suc j) some h =
-    let l : suc j ≤ suc i = ltb-false (suc i) (suc j) (rw (ne_eqb (suc j) 0 (omega arith)) at h) in
-    omega arith
-
-pub earlier_within : (i j n : ℕ) → i ≤ n → j ≤ n → earlier i j ≤ n
-earlier_within zero j n a b = b
-earlier_within (suc i) zero n a b = a
-earlier_within (suc i) (suc j) n a b = omega arith
+pub occurs_next : (r : Rule) (k : ℕ) (es : List Event) (p : ℕ) {first : ℕ} → first ≡ first_time 0 es → occurs_at r es k (suc p) ≡ (eqb (get_or es p no_event).activity k && (met r.condition (get_or es p no_event) (get_or es p no_event) && within r.window (between first (get_or es p no_event).time)))
+unfolding occurs_at occurs event_at
+occurs_next r k es p e =
+    let z : suc p - 1 ≡ p = omega arith in
+    rw (z, e) (simp and_assoc)
 
 -- ---- what they say
 

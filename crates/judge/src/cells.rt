@@ -1,13 +1,12 @@
 // All standings of a run at its events.
-ghost use Rattle.std.specs.Prelude.{◌≡◌, ◌+◌, min, length};
+ghost use Rattle.std.specs.Prelude.{◌≡◌, ◌+◌, min};
 ghost use Rattle.declare.specs.Limits.{most_events};
 ghost use Rattle.declare.specs.Steps.{carried};
 ghost use Rattle.standings.specs.Totals.{row_totals};
 ghost use Rattle.judge.specs.Cells.{judged, judged_cells};
-ghost use Rattle.judge.specs.Columns.{events_in};
 ghost use Rattle.judge.specs.Ready.{Ready};
 
-use crate::columns::{NUMBERS, columns_of};
+use crate::columns::{Columns, columns_of};
 use crate::flags::flags_of;
 use crate::scan::nearest_suiting;
 use crate::span::span_of;
@@ -15,49 +14,43 @@ use crate::target::target_of;
 use crate::template::{decide, template_of};
 use condition::bound::bound_of;
 use condition::reachability::can_suit;
-use declare::kind::{is_decided, is_idle};
-use declare::numbers::min;
 use declare::{EVENTS, Event, RULES, Rule, Standing, Table};
 use standings::totals::{Totals, with_standing};
 use standings::{Cell, CountedCells, PLACES};
 
-// What becomes of the standing s of the event `act` at place p. A decided one is carried over; of
-// an activation, the nearest event that suits it decides, else whether one may still come. The row
-// has a flag for each event.
-fn judge<'a>(
-    times: &'a [u32; EVENTS],
-    activities: &'a [u8; EVENTS],
-    numbers: &'a [i64; NUMBERS],
-    row: &'a [bool],
+// What becomes of the standing s of the event at place p. A decided one is carried over; of an
+// activation, the nearest event that suits it decides, else whether one may still come. The row
+// has a flag for each event. Inlined, it would make the loop over idle cells dearer.
+#[inline(never)]
+fn judge(
+    columns: &Columns,
+    events: &[Event],
+    row: &[bool],
     running: bool,
     horizon: u32,
-    rule: Rule,
+    rule: &Rule,
     p: usize,
-    act: Event,
     s: Standing,
 ) -> Standing
-    requires { Ready times.now activities.now numbers.now row.now rule p act }
-    ensures { result ≡ carried s (judged running rule (events_in times.now activities.now numbers.now (length row.now)) horizon (p + 1)) }
+    requires { Ready columns.now events.now row.now rule.now p }
+    ensures { result ≡ carried s (judged running rule.now events.now horizon (p + 1)) }
 {
-    if is_decided(s) {
+    if s.is_decided() {
         return s;
     }
     if !row[p] {
         return Standing::Idle;
     }
     let template = template_of(rule.code);
-    let reach = template.reach;
     let polarity = template.polarity;
-    let span = span_of(row, reach, p);
-    let bound = bound_of(rule, act);
+    let span = span_of(row, template.reach, p);
+    let bound = bound_of(*rule, events[p]);
     let n = row.len();
-    let stop = span.stop;
-    let end = min(stop, n);
-    let j = nearest_suiting(times, activities, numbers, bound, span.start, p + 1, end);
+    let j = nearest_suiting(columns, &bound, span.start, p + 1, span.stop.min(n));
     if 0 < j {
         return decide(polarity, target_of(j));
     }
-    if !running | (stop <= n) {
+    if !running | (span.stop <= n) {
         return decide(polarity, 0);
     }
     if can_suit(bound, horizon) {
@@ -81,45 +74,23 @@ pub fn judge_cells(
 ) -> CountedCells
     ensures { (result.cells ≡ judged_cells running table events n horizon cells) × (result.totals ≡ row_totals table.count (min n most_events) result.cells totals) }
 {
-    let rows = min(table.count, RULES);
-    let width = min(n, EVENTS);
-    let columns = columns_of(events, width);
-    let flags = flags_of(&columns.activities, table, rows, events, width);
-    let end = rows * EVENTS;
-    let mut j = 0;
-    while j < end {
-        let p = j % EVENTS;
-        if width <= p {
-            j += EVENTS - p;
-            continue;
+    let width = n.min(EVENTS);
+    let cycle = &events[..width];
+    let columns = columns_of(cycle);
+    // A place is that of a rule, a flag, a cell and totals at once, of which two are changed: by
+    // index, since iterators over four would be no plainer.
+    for k in 0..table.count.min(RULES) {
+        let rule = &table.rules[k];
+        let flags = flags_of(rule, cycle);
+        let row = &flags[..width];
+        for p in 0..width {
+            let s = cells[k * EVENTS + p].standing;
+            if row[p] | !s.is_idle() {
+                let next = judge(&columns, cycle, row, running, horizon, rule, p, s);
+                cells[k * EVENTS + p] = Cell { standing: next };
+                totals[k] = with_standing(totals[k], next);
+            }
         }
-        let c = cells[j];
-        let s = c.standing;
-        if flags[j] | !is_idle(s) {
-            let rule = table.rules[j / EVENTS];
-            let act = events[p];
-            let first = j - p;
-            let past = first + width;
-            let next = judge(
-                &columns.times,
-                &columns.activities,
-                &columns.numbers,
-                &flags[first..past],
-                running,
-                horizon,
-                rule,
-                p,
-                act,
-                s,
-            );
-            cells[j] = Cell { standing: next };
-            let t = totals[j / EVENTS];
-            totals[j / EVENTS] = with_standing(t, next);
-        }
-        j += 1;
     }
-    CountedCells {
-        cells: cells,
-        totals: totals,
-    }
+    CountedCells { cells, totals }
 }

@@ -1,5 +1,5 @@
 // The standings of rules about the cycle as such, at position 0.
-ghost use Rattle.std.specs.Prelude.{◌≡◌, true, ◌&&◌, ◌≤◌, take};
+ghost use Rattle.std.specs.Prelude.{◌≡◌, true, ◌&&◌, ◌≤◌, length};
 ghost use Rattle.declare.specs.Limits.{most_events};
 ghost use Rattle.declare.specs.Lists.{first_up_to};
 ghost use Rattle.declare.specs.Conditions.{met};
@@ -12,12 +12,11 @@ ghost use Rattle.judge.specs.Cells.{judged, judged_overall};
 ghost use Rattle.judge.specs.Occurrences.{earlier, target_occurrence};
 
 use crate::target::target_of;
-use condition::bound::{all_pass, cycle_bound, tests_for};
+use condition::bound::cycle_bound;
+use condition::conditions::met;
 use condition::reachability::can_suit;
 use condition::window::{between, within};
 use declare::codes::{counts_target, is_overall, overall_of};
-use declare::kind::is_decided;
-use declare::numbers::min;
 use declare::{EVENTS, Event, Overall, RULES, Rule, Standing, Table};
 use standings::Cell;
 
@@ -55,93 +54,80 @@ fn fulfilled_if(holds: bool, target: u16) -> Standing
     }
 }
 
-// The earlier of two positions; 0 is none.
+// The earlier of two positions; 0 is none, as document 01 has it.
 fn earlier(i: usize, j: usize) -> usize
     ensures { result ≡ earlier i j }
 {
-    if i == 0 {
-        return j;
+    match (i, j) {
+        (0, j) => j,
+        (i, 0) => i,
+        _ => i.min(j),
     }
-    if (j == 0) | (i < j) { i } else { j }
 }
 
 // The time of the first event; before there is one, the horizon.
-fn first_time(horizon: u32, events: [Event; EVENTS], n: usize) -> u32
-    ensures { result ≡ first_time horizon (take n events) }
+#[tactic(auto, unfolding(declare::specs::Events::first_time))]
+fn first_time(horizon: u32, events: &[Event]) -> u32
+    ensures { result ≡ first_time horizon events.now }
 {
-    if n == 0 {
-        return horizon;
-    }
-    let first = events[0];
-    first.time
+    events.first().map_or(horizon, |e| e.time)
 }
 
 // Whether the event meets the activation condition, inside the window from the time `first`.
-fn meets_inside(rule: Rule, first: u32, e: Event) -> bool
-    ensures { result ≡ (met rule.condition e e && within rule.window (between first e.time)) }
+fn meets_inside(rule: &Rule, first: u32, e: Event) -> bool
+    ensures { result ≡ (met rule.now.condition e e && within rule.now.window (between first e.time)) }
 {
-    if !within(rule.window, between(first, e.time)) {
-        return false;
-    }
-    all_pass(tests_for(e, rule.condition), e)
+    within(rule.window, between(first, e.time)) && met(rule.condition, e, e)
 }
 
-// The first of the n events at which the activity occurs, or 0. Most events have another activity:
-// these are not copied.
-fn first_occurrence(rule: Rule, activity: u8, events: [Event; EVENTS], n: usize) -> usize
-    requires { n ≤ most_events }
-    ensures { (result ≡ first_up_to (occurs_at rule (take n events) activity) n) × (result ≤ n) }
+// The first event at which the activity occurs, or 0. Most events have another activity: these are
+// not copied.
+fn first_occurrence(rule: &Rule, activity: u8, events: &[Event]) -> usize
+    requires { length events.now ≤ most_events }
+    ensures { (result ≡ first_up_to (occurs_at rule.now events.now activity) (length events.now)) × (result ≤ length events.now) }
 {
-    let first = first_time(0, events, n);
-    for p in 0..n {
-        if events[p].activity == activity {
-            let e = events[p];
-            if meets_inside(rule, first, e) {
-                return p + 1;
-            }
-        }
+    let first = first_time(0, events);
+    let place = events.iter().position(|e| e.activity == activity && meets_inside(rule, first, *e));
+    match place {
+        Some(p) => p + 1,
+        None => 0,
     }
-    0
 }
 
 // The same for the target activity, if it is judged; else 0.
-fn target_occurrence(rule: Rule, events: [Event; EVENTS], n: usize) -> usize
-    requires { n ≤ most_events }
-    ensures { (result ≡ target_occurrence rule (take n events) n) × (result ≤ n) }
+#[tactic(auto, unfolding(crate::specs::Occurrences::target_occurrence))]
+fn target_occurrence(rule: &Rule, events: &[Event]) -> usize
+    requires { length events.now ≤ most_events }
+    ensures { (result ≡ target_occurrence rule.now events.now (length events.now)) × (result ≤ length events.now) }
 {
     if counts_target(overall_of(rule.code)) {
-        return first_occurrence(rule, rule.target, events, n);
+        first_occurrence(rule, rule.target, events)
+    } else {
+        0
     }
-    0
 }
 
 // Whether an event that is no earlier than the horizon may occur.
-fn can_occur(rule: Rule, events: [Event; EVENTS], n: usize, horizon: u32) -> bool
-    ensures { result ≡ can_occur rule (take n events) horizon }
+fn can_occur(rule: &Rule, events: &[Event], horizon: u32) -> bool
+    ensures { result ≡ can_occur rule.now events.now horizon }
 {
-    let first = first_time(horizon, events, n);
-    can_suit(cycle_bound(rule, first), horizon)
+    let first = first_time(horizon, events);
+    can_suit(cycle_bound(*rule, first), horizon)
 }
 
 // The standing at position 0: by the formula, unless an event that can come may turn it.
-fn judge_cycle(
-    running: bool,
-    rule: Rule,
-    events: [Event; EVENTS],
-    n: usize,
-    horizon: u32,
-) -> Standing
-    requires { (n ≤ most_events) × (is_overall rule.code ≡ true) }
-    ensures { result ≡ judged running rule (take n events) horizon 0 }
+fn judge_cycle(running: bool, rule: &Rule, events: &[Event], horizon: u32) -> Standing
+    requires { (length events.now ≤ most_events) × (is_overall rule.now.code ≡ true) }
+    ensures { result ≡ judged running rule.now events.now horizon 0 }
 {
     let kind = overall_of(rule.code);
-    let a = first_occurrence(rule, rule.activation, events, n);
-    let b = target_occurrence(rule, events, n);
+    let a = first_occurrence(rule, rule.activation, events);
+    let b = target_occurrence(rule, events);
     let decided = fulfilled_if(formula(kind, 0 < a, 0 < b), target_of(earlier(a, b)));
     if !running | settled(kind, 0 < a, 0 < b) {
         return decided;
     }
-    if can_occur(rule, events, n, horizon) {
+    if can_occur(rule, events, horizon) {
         return Standing::Open;
     }
     decided
@@ -159,14 +145,12 @@ pub fn judge_overall(
 ) -> [Cell; RULES]
     ensures { result ≡ judged_overall running table events n horizon cells }
 {
-    let rows = min(table.count, RULES);
-    let width = min(n, EVENTS);
-    for k in 0..rows {
-        let rule = table.rules[k];
-        let c = cells[k];
-        let s = c.standing;
-        if is_overall(rule.code) & !is_decided(s) {
-            let next = judge_cycle(running, rule, events, width, horizon);
+    let cycle = &events[..n.min(EVENTS)];
+    // One index for two arrays, of which one is changed: a zip would be no plainer.
+    for k in 0..table.count.min(RULES) {
+        let rule = &table.rules[k];
+        if is_overall(rule.code) & !cells[k].standing.is_decided() {
+            let next = judge_cycle(running, rule, cycle, horizon);
             cells[k] = Cell { standing: next };
         }
     }

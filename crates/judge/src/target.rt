@@ -1,4 +1,5 @@
-// A position as a target.
+// A position as a target: `as`, since the clause says that it fits; `try_from` would have a case
+// that there is not.
 ghost use Rattle.std.specs.Prelude.{◌≡◌, ◌≤◌};
 ghost use Rattle.declare.specs.Limits.{most_events};
 

@@ -1,44 +1,38 @@
 // The limits of events. A test that the number's type decides costs nothing.
-ghost use Rattle.std.specs.Prelude.{◌≡◌};
-ghost use Rattle.declare.specs.Comparisons.{operand_of};
+ghost use Rattle.std.specs.Prelude.{◌≡◌, Some};
 ghost use Rattle.declare.specs.Events.{in_range, is_activity, well_formed};
-ghost use Rattle.declare.specs.declared.Operand.TheVariants.{Exact};
 
 use declare::{Event, LAST_ACTIVITY, LATEST, Reading};
 
-// Whether v may be a reading or a constant.
+// Whether v may be a reading or a constant: each number of its type may.
 pub fn in_range(v: i32) -> bool
-    ensures { result ≡ in_range (Exact v) }
+    ensures { result ≡ in_range (Some v) }
 {
-    (-2147483648 <= v) & (v <= 2147483647)
+    (i32::MIN..=i32::MAX).contains(&v)
 }
 
+#[tactic(auto, unfolding(declare::specs::Events::in_range))]
 fn reading_in_range(reading: Reading) -> bool
-    ensures { result ≡ in_range (operand_of reading) }
+    ensures { result ≡ in_range reading }
 {
-    match reading {
-        Reading::Blank => true,
-        Reading::Value(v) => in_range(v),
-    }
+    reading.is_none_or(in_range)
 }
 
+#[tactic(auto, unfolding(declare::specs::Events::is_activity))]
 pub fn is_activity(a: u8) -> bool
     ensures { result ≡ is_activity a }
 {
-    (1 <= a) & (a <= LAST_ACTIVITY)
+    (1..=LAST_ACTIVITY).contains(&a)
 }
 
+// The readings have names, so that a loop over a list of them would be no plainer.
 pub fn well_formed(e: Event) -> bool
     ensures { result ≡ well_formed e }
 {
-    let first = e.reading1;
-    let second = e.reading2;
-    let third = e.reading3;
-    let fourth = e.reading4;
     (e.time <= LATEST)
         & is_activity(e.activity)
-        & reading_in_range(first)
-        & reading_in_range(second)
-        & reading_in_range(third)
-        & reading_in_range(fourth)
+        & reading_in_range(e.reading1)
+        & reading_in_range(e.reading2)
+        & reading_in_range(e.reading3)
+        & reading_in_range(e.reading4)
 }

@@ -1,7 +1,6 @@
 // The limits of rules: every number against its range, and what a template asks of its rule.
 ghost use Rattle.std.specs.Prelude.{◌≡◌, false, true};
-ghost use Rattle.declare.specs.Lists.{all};
-ghost use Rattle.declare.specs.Conditions.{comparisons_of};
+ghost use Rattle.std.specs.List.{list_all};
 ghost use Rattle.declare.specs.Rules.{is_reading, valid_reference, valid_comparison, valid_condition, valid_end, valid_window, valid_head, fits_template, valid_rule};
 
 use crate::event::{in_range, is_activity};
@@ -10,13 +9,15 @@ use declare::{
     COMPARISONS, Comparison, Condition, End, LAST_TEMPLATE, LATEST, Reference, Rule, Window,
 };
 
+#[tactic(auto, unfolding(declare::specs::Rules::is_reading))]
 fn is_reading(k: u8) -> bool
     ensures { result ≡ is_reading k }
 {
-    (1 <= k) & (k <= 4)
+    (1..=4).contains(&k)
 }
 
 // The activation's readings are named in a correlation only.
+#[tactic(auto, unfolding(declare::specs::Rules::valid_reference))]
 fn valid_reference(correlation: bool, reference: Reference) -> bool
     ensures { result ≡ valid_reference correlation reference }
 {
@@ -26,57 +27,50 @@ fn valid_reference(correlation: bool, reference: Reference) -> bool
     }
 }
 
+#[tactic(auto, unfolding(declare::specs::Rules::valid_comparison))]
 fn valid_comparison(correlation: bool, c: Comparison) -> bool
     ensures { result ≡ valid_comparison correlation c }
 {
-    let reference = c.reference;
-    is_reading(c.reading) & valid_reference(correlation, reference)
+    is_reading(c.reading) & valid_reference(correlation, c.reference)
 }
 
-// The comparisons up to the count.
-fn valid_comparisons(correlation: bool, c: Condition) -> bool
-    ensures { result ≡ all (valid_comparison correlation) (comparisons_of c) }
+fn valid_comparisons(correlation: bool, comparisons: &[Comparison]) -> bool
+    ensures { result ≡ list_all (valid_comparison correlation) comparisons.now }
 {
-    let n = c.count;
-    ((n < 1) | valid_comparison(correlation, c.first))
-        & ((n < 2) | valid_comparison(correlation, c.second))
-        & ((n < 3) | valid_comparison(correlation, c.third))
-        & ((n < 4) | valid_comparison(correlation, c.fourth))
+    comparisons
+        .iter()
+        .all(|c| valid_comparison(correlation, *c))
 }
 
-// A condition of no comparisons is valid, and many rules have one.
+// The count, and the comparisons up to it.
 fn valid_condition(correlation: bool, c: Condition) -> bool
     ensures { result ≡ valid_condition correlation c }
 {
-    if c.count < 1 {
-        return true;
-    }
-    (c.count <= COMPARISONS) & valid_comparisons(correlation, c)
+    let all = [c.first, c.second, c.third, c.fourth];
+    c.count <= COMPARISONS && valid_comparisons(correlation, &all[..c.count as usize])
 }
 
 // Whether b, the end, is above a, the start.
+#[tactic(auto, unfolding(declare::specs::Rules::valid_end))]
 fn valid_end(a: u32, until: End) -> bool
     ensures { result ≡ valid_end a until }
 {
-    match until {
-        End::Never => true,
-        End::At(b) => (a < b) & (b <= LATEST),
-    }
+    until.is_none_or(|b| (a < b) & (b <= LATEST))
 }
 
+#[tactic(auto, unfolding(declare::specs::Rules::valid_window))]
 fn valid_window(w: Window) -> bool
     ensures { result ≡ valid_window w }
 {
-    let until = w.until;
-    (w.from <= LATEST) & valid_end(w.from, until)
+    (w.from <= LATEST) & valid_end(w.from, w.until)
 }
 
 // All of a rule but its conditions.
+#[tactic(auto, unfolding(declare::specs::Rules::valid_head, declare::specs::Rules::is_template))]
 fn valid_head(rule: Rule) -> bool
     ensures { result ≡ valid_head rule }
 {
-    (1 <= rule.code)
-        & (rule.code <= LAST_TEMPLATE)
+    (1..=LAST_TEMPLATE).contains(&rule.code)
         & is_activity(rule.activation)
         & is_activity(rule.target)
         & valid_window(rule.window)
@@ -84,6 +78,7 @@ fn valid_head(rule: Rule) -> bool
 
 // Whether a rule about the cycle as such has no correlation, and activities that differ where both
 // count. Any other rule fits.
+#[tactic(auto, unfolding(declare::specs::Rules::fits_template))]
 pub fn fits_template(rule: Rule) -> bool
     ensures { result ≡ fits_template rule }
 {
@@ -94,13 +89,12 @@ pub fn fits_template(rule: Rule) -> bool
     (rule.correlation.count == 0) & !(both_count & (rule.activation == rule.target))
 }
 
+#[tactic(auto, unfolding(declare::specs::Rules::valid_rule))]
 pub fn valid_rule(rule: Rule) -> bool
     ensures { result ≡ valid_rule rule }
 {
-    if !fits_template(rule) {
-        return false;
-    }
     valid_head(rule)
-        & valid_condition(false, rule.condition)
-        & valid_condition(true, rule.correlation)
+        && valid_condition(false, rule.condition)
+        && valid_condition(true, rule.correlation)
+        && fits_template(rule)
 }

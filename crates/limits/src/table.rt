@@ -1,22 +1,20 @@
 // The limits of tables: the causes of 11 in a table.
 ghost use Rattle.std.specs.Prelude.{◌≡◌};
-ghost use Rattle.declare.specs.Rules.{valid_table};
+ghost use Rattle.std.specs.List.{list_all};
+ghost use Rattle.declare.specs.Rules.{valid_table, valid_rule};
 
 use crate::rule::valid_rule;
-use declare::{RULES, Table};
+use declare::{RULES, Rule, Table};
+
+fn valid_rules(rules: &[Rule]) -> bool
+    ensures { result ≡ list_all valid_rule rules.now }
+{
+    rules.iter().all(|rule| valid_rule(*rule))
+}
 
 // Whether the table is valid: its count, and the rules up to it.
 pub fn valid_table(table: Table) -> bool
     ensures { result ≡ valid_table table }
 {
-    let count = table.count;
-    if RULES < count {
-        return false;
-    }
-    let mut valid = true;
-    for k in 0..count {
-        let rule = table.rules[k];
-        valid = valid & valid_rule(rule);
-    }
-    valid
+    table.count <= RULES && valid_rules(&table.rules[..table.count])
 }

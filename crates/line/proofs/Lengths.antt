@@ -1,5 +1,6 @@
 -- Bytes, and at most so many: of a field, of joined parts, of a line, of a text. The two facts go
 -- together, so that each law is one for both.
+use Rattle.std.specs.Prelude.{None, Some}
 use mathlib.Core.Path.{◌≡◌, refl}
 use mathlib.Core.Bool.{Bool, true}
 use mathlib.Core.List.{List, [], ◌∷◌, ◌++◌}
@@ -10,7 +11,6 @@ use lib.IntN.{ℤ, pos, negsuc}
 use lib.ListN.{length, length-append}
 use lib.Signed.{le_z}
 use Rattle.declare.specs.Lists.{all}
-use Rattle.declare.specs.Comparisons.{operand_of}
 use Rattle.declare.specs.Events.{in_range, least, greatest}
 use Rattle.declare.proofs.Booleans.{and₂, both, all_append}
 use Rattle.number.specs.Number.{digit, digits}
@@ -18,7 +18,7 @@ use Rattle.number.specs.Written.{digits_of, integer_text}
 use Rattle.number.proofs.Digits.{digit_high}
 use Rattle.number.proofs.Written.{written_digits}
 use Rattle.number.proofs.Lengths.{digits_length, integer_length}
-use Rattle.line.specs.Types.{Reading, Blank, Value}
+use Rattle.line.specs.Types.{Reading}
 use Rattle.line.specs.Fields.{LF, tab, is_byte, each_after, joined}
 use Rattle.line.specs.Values.{reading_text}
 use Rattle.line.specs.Texts.{written_line, written_text}
@@ -63,10 +63,10 @@ unfolding integer_text is_byte all
 integer_bytes (pos n) = digits_bytes (digits_of n) (written_digits n)
 integer_bytes (negsuc n) = digits_bytes (digits_of (suc n)) (written_digits (suc n))
 
-pub reading_within : (r : Reading) → in_range (operand_of r) ≡ true → Within 11 (reading_text r)
+pub reading_within : (r : Reading) → in_range (r) ≡ true → Within 11 (reading_text r)
 unfolding in_range least greatest reading_text is_byte
-reading_within Blank h = within_more 45 refl (within_none 10)
-reading_within (Value z) h =
+reading_within None h = within_more 45 refl (within_none 10)
+reading_within (Some z) h =
     let p : (le_z (negsuc 2147483647) z ≡ true) × (le_z z (pos 2147483647) ≡ true) = and₂ h in
     record { bytes = integer_bytes z; most = integer_length z p.0 p.1 }
 

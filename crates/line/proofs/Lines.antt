@@ -1,17 +1,35 @@
 -- A line: its fields, one after the other, and the checks before them.
+use mathlib.Core.Bool.{Bool, true, false}
 use mathlib.Core.Path.{◌≡◌, refl, sym, ◌∙◌, ap}
 use mathlib.Core.List.{List, [], ◌∷◌, ◌++◌}
-use Prim.Native.Nat.{ℕ, zero, suc, ◌+◌, ◌≤◌, ◌<◌}
+use Prim.Native.Nat.{ℕ, zero, suc, ◌+◌, ◌≤◌}
 use native.Mathlib.Omega.{arith}
-use borrow.Author.Tests.{lt-ltb, le-ltb}
+use borrow.Author.Tests.{eqb-true, eqb-false}
+use lib.Dec.{ltb, eqb}
 use lib.ListN.{length, get_or, take, drop}
 use lib.Seq.{take-suc, take_all}
-use Rattle.declare.specs.Answers.{Answer, accepted, refused, ◌>>=◌}
-use Rattle.line.specs.Types.{LineScan}
+use Rattle.std.specs.Prelude.{Result, Ok, Err}
+use Rattle.std.specs.Result.{IsErrAnd, MatchResult}
+use Rattle.declare.specs.Refusals.{number_of}
+use Rattle.line.specs.Types.{Refusal}
+use Rattle.declare.specs.Answers.{Answer, accepted, refused, answer_of, ◌>>=◌, ◌>>◌, require}
 use Rattle.line.specs.Fields.{LF, tab, index_of, before, following, fields_from, split}
-use Rattle.line.specs.Scans.{line_scan}
-use Rattle.line.specs.Texts.{line_of}
-use Rattle.line.proofs.Fields.{index_le, count_parts, first_field, last_field}
+use Rattle.line.specs.Texts.{has_fields, line_of}
+use Rattle.line.proofs.Fields.{first_field, last_field}
+
+-- ---- a refusal that `?` passes on
+
+pub told : {A : Type 0} (cause : Refusal) (r : Result A Refusal) → IsErrAnd r (λ passed. passed ≡ cause) → answer_of r ≡ refused (number_of cause)
+unfolding answer_of
+told cause (Ok a) h = absurd h
+told cause (Err passed) h = rw h
+
+-- ---- an answer that goes on from another
+
+pub chained : {A : Type 0} (r : Result (Unit {0}) Refusal) (s : Result A Refusal) (x : Answer A) → MatchResult r (λ a. answer_of s ≡ x) (λ cause. s ≡ Err cause) → answer_of s ≡ (answer_of r >> x)
+unfolding answer_of ◌>>◌
+chained (Ok a) s x h = h
+chained (Err cause) s x h = rw h
 
 -- ---- field by field
 
@@ -50,33 +68,15 @@ numbered_take (suc n) fields h = rw (numbered_take n fields (omega arith)) (sym 
 pub all_numbered : (n : ℕ) (fields : List (List ℕ)) → length fields ≡ n → numbered n fields ≡ fields
 all_numbered n fields h = numbered_take n fields (omega arith) ∙ take_all n fields (omega arith)
 
--- ---- the checks before the fields, by the scan of the line with which s begins
+-- ---- the checks before the fields
 
-module _ (s : List ℕ) (scan : LineScan) (h : scan ≡ line_scan s) where
-  pub end_is : scan.end ≡ index_of LF s
-  unfolding line_scan
-  end_is = ap (λ (k : LineScan). k.end) h
-
-  pub end_within : scan.end ≤ length s
-  end_within = omega (arith, end_is, index_le LF s)
-
-  -- a field more than tabs
-  fields_are : length (split tab (before LF s)) ≡ scan.tabs + 1
-  unfolding line_scan
-  fields_are = omega (arith, count_parts tab (before LF s), ap (λ (k : LineScan). k.tabs) h)
-
-  module _ {A : Type 0} (holds : List (List ℕ) → Answer A) where
-    pub no_line_end : length s ≤ scan.end → line_of holds s ≡ refused 12
-    unfolding line_of
-    no_line_end l = rw (le-ltb (index_of LF s) (length s) (omega (arith, end_is)))
-
-    module _ (l : scan.end < length s) where
-      ended : line_of holds s ≡ holds (split tab (before LF s))
-      unfolding line_of
-      ended = rw (lt-ltb (index_of LF s) (length s) (omega (arith, end_is)))
-
-      pub other_count : (n : ℕ) → ((fields : List (List ℕ)) → (length fields ≡ suc n → ⊥) → holds fields ≡ refused 1) → (scan.tabs ≡ n → ⊥) → line_of holds s ≡ refused 1
-      other_count n f m = ended ∙ f _ (λ e. m (omega (arith, fields_are)))
-
-      pub fields_of_lem : (n : ℕ) → scan.tabs ≡ n → line_of holds s ≡ holds (fields_from n s)
-      fields_of_lem n m = ended ∙ ap holds (fields_from_lem n s (omega (arith, fields_are)))
+-- of a line that has n fields and one more the fields are then read one after the other
+pub line_checked : {A : Type 0} (n : ℕ) (holds : List (List ℕ) → Answer A) → ((fields : List (List ℕ)) → (length fields ≡ n + 1 → ⊥) → holds fields ≡ refused 1) → (s : List ℕ) → line_of holds s ≡ (line_of (has_fields (n + 1)) s >> holds (fields_from n s))
+unfolding line_of has_fields require ◌>>◌
+line_checked n holds other s =
+    go (ltb (index_of LF s) (length s)) (eqb (length (split tab (before LF s))) (n + 1)) refl refl
+  where
+    go : (t u : Bool) → ltb (index_of LF s) (length s) ≡ t → eqb (length (split tab (before LF s))) (n + 1) ≡ u → line_of holds s ≡ (line_of (has_fields (n + 1)) s >> holds (fields_from n s))
+    go false u p q = rw p
+    go true false p q = rw (p, q) (other _ (eqb-false _ _ q))
+    go true true p q = rw (p, q) (ap holds (fields_from_lem n s (omega (arith, eqb-true (length (split tab (before LF s))) (n + 1) q))))

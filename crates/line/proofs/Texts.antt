@@ -13,10 +13,13 @@ use lib.ListN.{length, take, get_or, length-append}
 use lib.Seq.{take_all, take-suc}
 use Rattle.declare.specs.Lists.{all}
 use Rattle.number.specs.Number.{none}
-use Rattle.line.specs.Types.{Outcome, Accepted, Refused}
+use Rattle.number.proofs.Results.{no_err, ok_ok, err_err}
+use Rattle.std.specs.Prelude.{Result, Ok, Err}
+use Rattle.declare.specs.Refusals.{number_of}
+use Rattle.line.specs.Types.{Refusal, LineRefusal}
 use Rattle.line.specs.Fields.{LF, tab, index_of, before, following, split, each_after, joined}
-use Rattle.declare.specs.Answers.{Answer, accepted, refused, ◌>>=◌}
-use Rattle.line.specs.Texts.{Records, All, Stop, line_after, continued, lines_of, text_of, line_of, written_line, written_text, records_read}
+use Rattle.declare.specs.Answers.{Answer, accepted, refused, answer_of, ◌>>=◌}
+use Rattle.line.specs.Texts.{Records, All, Stop, line_after, continued, lines_of, text_of, line_of, at_line, written_line, written_text, records_read}
 use Rattle.line.proofs.Fields.{before_take, parts}
 use Rattle.line.proofs.Joined.{lacks, split_before, split_joined, lacks_joined, joined_split}
 
@@ -31,10 +34,27 @@ stop_at e = cc
 pub all_all : {A : Type 0} {rs qs : List A} → All rs ≡ All qs → rs ≡ qs
 all_all e = cc
 
-pub outcome_accepted : {A : Type 0} (outcome : Outcome) (rs qs : List A) → records_read outcome rs ≡ All qs → outcome ≡ Accepted
+-- an answer that gives all records of a text
+pub record Accepted {A B : Type 0} (list : B → List A) (r : Result B LineRefusal) (rs : List A) : Type 0 where
+  pub value : B
+  pub answer : r ≡ Ok value
+  pub records : list value ≡ rs
+
+pub accepted_lem : {A B : Type 0} (list : B → List A) (r : Result B LineRefusal) (rs : List A) → records_read list r ≡ All rs → Accepted list r rs
 unfolding records_read
-outcome_accepted Accepted rs qs e = refl
-outcome_accepted (Refused cause line) rs qs e = absurd (stop_all e)
+accepted_lem list (Ok b) rs e = record { value = b; answer = refl; records = all_all e }
+accepted_lem list (Err r) rs e = absurd (stop_all e)
+
+-- an answer about a line, passed on: a refusal ends the text
+pub line_refused : {A B C : Type 0} (list : C → List B) (r : Result A Refusal) (line : ℕ) (told : LineRefusal) (whole : Records B) → at_line line r ≡ Err told → ((n : ℕ) → answer_of r ≡ refused n → whole ≡ Stop n line) → records_read list (Err told) ≡ whole
+unfolding at_line records_read answer_of
+line_refused list (Ok a) line told whole h stops = absurd (no_err h)
+line_refused list (Err cause) line told whole h stops = rw (← err_err h) (sym (stops (number_of cause) refl))
+
+pub line_accepted : {A : Type 0} (r : Result A Refusal) (line : ℕ) (a : A) → at_line line r ≡ Ok a → answer_of r ≡ accepted a
+unfolding at_line answer_of
+line_accepted (Ok b) line a h = ap accepted (ok_ok h)
+line_accepted (Err cause) line a h = absurd (no_err (sym h))
 
 some : (s : List ℕ) → 0 < length s → none s ≡ false
 unfolding none

@@ -2,93 +2,69 @@
 -- stands for what a line's fields hold, `follows` for the checks of a record below those above it.
 -- At each turn the text gives what the lines left give below the records in the slots: the line in
 -- hand refuses the text, or its record fills the next slot and what follows is left.
-use mathlib.Core.Path.{◌≡◌, refl, sym, ◌∙◌, ap}
-use mathlib.Core.Bool.{Bool, true, false}
+use mathlib.Core.Path.{◌≡◌, refl, ◌∙◌, ap}
 use mathlib.Core.List.{List, [], ◌∷◌, ◌++◌}
-use Prim.Native.Nat.{ℕ, ◌+◌, ◌-◌, ◌≤◌, ◌<◌}
+use Prim.Native.Nat.{ℕ, ◌+◌, ◌<◌}
 use native.Mathlib.Omega.{arith}
-use borrow.Author.Tests.{ltb-true}
-use lib.Dec.{ltb}
-use lib.ListN.{length, take, drop, set, replicate, length-drop, drop_of_length-le}
-use lib.Seq.{drop-drop}
+use mathlib.Core.Bool.{true, false}
+use borrow.Author.Tests.{eqb-true, eqb-false}
+use lib.Dec.{eqb}
+use lib.ListN.{length, take, drop, set, replicate, length-drop}
 use Rattle.declare.specs.Answers.{Answer, accepted, refused, ◌>>=◌}
-use Rattle.declare.proofs.Answers.{no_of}
 use Rattle.declare.proofs.Filled.{Filled, filled_none, filled_count, filled_values, filled_more}
 use Rattle.number.specs.Number.{none}
 use Rattle.line.specs.Fields.{LF, index_of, following, split}
 use Rattle.line.specs.Texts.{All, Stop, line_after, continued, lines_of, text_of, line_of}
-use Rattle.line.proofs.Fields.{part_rest}
 use Rattle.line.proofs.Texts.{line_then, text_step}
-
-found_end : {A : Type 0} (holds : List (List ℕ) → Answer A) (s : List ℕ) (r : A) → line_of holds s ≡ accepted r → index_of LF s + 1 ≤ length s
-unfolding line_of
-found_end holds s r h = go (ltb (index_of LF s) (length s)) refl
-  where
-    go : (t : Bool) → ltb (index_of LF s) (length s) ≡ t → index_of LF s + 1 ≤ length s
-    go true p = omega (arith, ltb-true (index_of LF s) (length s) p)
-    go false p = absurd (no_of (rw p at h))
 
 abbrev record_of : {A : Type 0} → (List (List ℕ) → Answer A) → (List A → A → Answer A) → List A → List (List ℕ) → Answer A
 record_of holds follows above fields = holds fields >>= follows above
 
-module _ {A : Type 0} (holds : List (List ℕ) → Answer A) (follows : List A → A → Answer A) (room : ℕ) (slot : A) where
-  -- `at` bytes of the text are read, and gave `count` records
-  pub record Turn (text : List ℕ) (count at : ℕ) (slots : List A) : Type 0 where
-    pub within : at ≤ length text
-    pub filled : Filled room slot count slots
-    pub left : text_of (record_of holds follows) text ≡ lines_of (record_of holds follows) (take count slots) (split LF (drop at text))
+-- what is left of a text below `count` records
+pub record Turn {A : Type 0} (holds : List (List ℕ) → Answer A) (follows : List A → A → Answer A) (room : ℕ) (slot : A) (text : List ℕ) (count : ℕ) (slots : List A) (rest : List ℕ) : Type 0 where
+  pub filled : Filled room slot count slots
+  pub left : text_of (record_of holds follows) text ≡ lines_of (record_of holds follows) (take count slots) (split LF rest)
 
-  pub first_turn : (text : List ℕ) → Turn text 0 0 (replicate room slot)
-  unfolding text_of
-  first_turn text = record { within = omega arith; filled = filled_none room slot; left = refl }
+pub first_turn : {A : Type 0} (holds : List (List ℕ) → Answer A) (follows : List A → A → Answer A) (room : ℕ) (slot : A) (text : List ℕ) → Turn holds follows room slot text 0 (replicate room slot) text
+unfolding text_of
+first_turn holds follows room slot text = record { filled = filled_none room slot; left = refl }
 
-  -- and `line` is what the next line holds, which is `next` bytes long: its reader is handed the
-  -- part of the text from `at` on
-  pub record InHand (text : List ℕ) (count at : ℕ) (slots : List A) (line : Answer A) (next : ℕ) : Type 0 where
-    pub turn : Turn text count at slots
-    pub more : at < length text
-    pub found : (line ≡ line_of holds (take (length text - at) (drop at text))) × (next ≡ index_of LF (take (length text - at) (drop at text)) + 1)
+nothing : (s : List ℕ) → length s ≡ 0 → s ≡ []
+nothing [] h = refl
+nothing (b ∷ s) h = absurd (omega arith)
 
-module _ {A : Type 0} {holds : List (List ℕ) → Answer A} {follows : List A → A → Answer A} {room : ℕ} {slot : A} {text : List ℕ} {count at : ℕ} {slots : List A} (t : Turn holds follows room slot text count at slots) where
+-- each line has a byte
+pub turn_less : (rest : List ℕ) (next : ℕ) → eqb (length rest) 0 ≡ false → next ≡ index_of LF rest + 1 → length (drop next rest) < length rest
+turn_less rest next m n = rw (length-drop next rest) (omega (arith, eqb-false (length rest) 0 m))
+
+module _ {A : Type 0} {holds : List (List ℕ) → Answer A} {follows : List A → A → Answer A} {room : ℕ} {slot : A} {text : List ℕ} {count : ℕ} {slots : List A} {rest : List ℕ} (t : Turn holds follows room slot text count slots rest) where
   pub turn_count : length (take count slots) ≡ count
   turn_count = filled_count room slot count slots t.filled
 
-  pub last_turn : length text ≤ at → text_of (record_of holds follows) text ≡ All (take count slots)
+  pub last_turn : eqb (length rest) 0 ≡ true → text_of (record_of holds follows) text ≡ All (take count slots)
   unfolding lines_of split none
-  last_turn h = t.left ∙ rw (drop_of_length-le text h)
+  last_turn h = t.left ∙ rw (nothing rest (eqb-true (length rest) 0 h))
 
-module _ {A : Type 0} {holds : List (List ℕ) → Answer A} {follows : List A → A → Answer A} {room : ℕ} {slot : A} {text : List ℕ} {count at : ℕ} {slots : List A} {line : Answer A} {next : ℕ} (hand : InHand holds follows room slot text count at slots line next) where
-  abbrev above : List A
-  above = take count slots
+  -- `line` is what the next line holds
+  module _ (more : eqb (length rest) 0 ≡ false) {line : Answer A} (found : line ≡ line_of holds rest) where
+    abbrev above : List A
+    above = take count slots
 
-  line_is : (line ≡ line_of holds (drop at text)) × (next ≡ index_of LF (drop at text) + 1)
-  line_is = rw (part_rest text at) at hand.found
+    by_line : text_of (record_of holds follows) text ≡ continued above (line >>= follows above) (λ r. lines_of (record_of holds follows) (above ++ (r ∷ [])) (split LF (following LF rest)))
+    by_line =
+        t.left
+        ∙ text_step (record_of holds follows) above rest (omega (arith, eqb-false (length rest) 0 more))
+        ∙ rw (line_then holds (follows above) rest, found)
 
-  by_line : text_of (record_of holds follows) text ≡ continued above (line >>= follows above) (λ r. lines_of (record_of holds follows) (above ++ (r ∷ [])) (split LF (following LF (drop at text))))
-  by_line =
-      hand.turn.left
-      ∙ text_step (record_of holds follows) above (drop at text) (rw (length-drop at text) (omega (arith, hand.more)))
-      ∙ rw (line_then holds (follows above) (drop at text), line_is.0)
+    pub turn_refused : {n : ℕ} → (line >>= follows above) ≡ refused n → text_of (record_of holds follows) text ≡ Stop n (count + 1)
+    unfolding continued line_after
+    turn_refused {n} h = by_line ∙ rw h (ap (λ (k : ℕ). Stop n (k + 1)) turn_count)
 
-  pub turn_refused : (n : ℕ) → (line >>= follows above) ≡ refused n → text_of (record_of holds follows) text ≡ Stop n (count + 1)
-  unfolding continued line_after
-  turn_refused n h = by_line ∙ rw h (ap (λ (k : ℕ). Stop n (k + 1)) (turn_count hand.turn))
-
-  module _ (r : A) (h : line ≡ accepted r) where
-    -- the next line begins in the text, or at its end
-    pub turn_within : at + next ≤ length text
-    turn_within =
-        omega (arith, hand.more, found_end holds (drop at text) r (sym line_is.0 ∙ h), line_is.1, length-drop at text)
-
-    pub turn_less : length text - (at + next) < length text - at
-    turn_less = omega (arith, hand.more, line_is.1)
-
-    pub turn_taken : follows above r ≡ accepted r → count < room → Turn holds follows room slot text (count + 1) (at + next) (set slots count r)
-    unfolding continued ◌>>=◌ following
-    turn_taken f l =
-        let filled = hand.turn.filled in
+    -- and the line is `next` bytes long
+    pub turn_taken : (r : A) (next : ℕ) → (line >>= follows above) ≡ accepted r → count < room → next ≡ index_of LF rest + 1 → Turn holds follows room slot text (count + 1) (set slots count r) (drop next rest)
+    unfolding continued following
+    turn_taken r next f l n =
         record {
-          within = turn_within;
-          filled = filled_more room slot count slots filled r l;
-          left = by_line ∙ rw (h, f, filled_values room slot count slots filled r l, ← line_is.1, drop-drop next at text);
+          filled = filled_more room slot count slots t.filled r l;
+          left = by_line ∙ rw (f, filled_values room slot count slots t.filled r l, n);
         }

@@ -1,4 +1,5 @@
 -- Fields on single texts, by computation over the definitions.
+use Rattle.std.specs.Prelude.{None, Some}
 use mathlib.Core.Path.{◌≡◌, refl}
 use mathlib.Core.List.{List, [], ◌∷◌, map}
 use Prim.Native.Nat.{ℕ}
@@ -7,10 +8,10 @@ use lib.IntN.{pos, negsuc}
 use lib.ListN.{length, get_or}
 use Rattle.number.specs.Number.{digit, digits, none, zero_alone, positive, negative, natural_form, integer_form, dash, value_from, value_of, integer_value, in_natural_range, natural_of, in_signed_range, integer_of}
 use Rattle.number.proofs.Quoted.{bytes, Case, ◌gives◌, Checked}
-use Rattle.line.specs.Types.{Reading, Blank, Value}
+use Rattle.line.specs.Types.{Reading}
 use Rattle.line.specs.Fields.{LF, tab, before, onto, split, each_after, joined}
 use Rattle.declare.specs.Answers.{Answer, accepted, refused, ◌>>◌, require}
-use Rattle.line.specs.Values.{fault_number, natural_answer, number_field, integer_answer, reading_field}
+use Rattle.line.specs.Values.{number_field, reading_field}
 use Rattle.line.specs.Texts.{Records, All, Stop, line_after, continued, lines_of, text_of, written_line, written_text}
 
 -- no bytes are one empty part; a separator at the end leaves an empty part behind it
@@ -46,11 +47,11 @@ activities =
 -- blank is not 0
 abbrev readings : List (Case (Answer Reading))
 readings =
-    "-" gives accepted Blank
-    ∷ "0" gives accepted (Value (pos 0))
-    ∷ "-7" gives accepted (Value (negsuc 6))
-    ∷ "2147483647" gives accepted (Value (pos 2147483647))
-    ∷ "-2147483648" gives accepted (Value (negsuc 2147483647))
+    "-" gives accepted None
+    ∷ "0" gives accepted (Some (pos 0))
+    ∷ "-7" gives accepted (Some (negsuc 6))
+    ∷ "2147483647" gives accepted (Some (pos 2147483647))
+    ∷ "-2147483648" gives accepted (Some (negsuc 2147483647))
     ∷ "2147483648" gives refused 3
     ∷ "-2147483649" gives refused 3
     ∷ "-0" gives refused 2
@@ -86,5 +87,5 @@ pub record Vectors : Type 0 where
   pub of_written_lem : written_text (λ (p : List ℕ). p ∷ p ∷ []) (bytes "a" ∷ bytes "bc" ∷ []) ≡ bytes "a\ta\nbc\tbc\n"
 
 pub vectors : Vectors
-unfolding digit digits none zero_alone positive negative natural_form integer_form dash value_from value_of integer_value in_natural_range natural_of in_signed_range integer_of before onto split each_after joined ◌>>◌ require fault_number natural_answer number_field integer_answer reading_field line_after continued lines_of text_of written_line written_text
+unfolding digit digits none zero_alone positive negative natural_form integer_form dash value_from value_of integer_value in_natural_range natural_of in_signed_range integer_of before onto split each_after joined ◌>>◌ require number_field reading_field line_after continued lines_of text_of written_line written_text
 vectors = record { of_parts = refl; of_lines = refl; of_activities = refl; of_readings = refl; of_texts = refl; of_written_lem = refl }

@@ -4,24 +4,48 @@
 
 ghost use Rattle.std.specs.Prelude.{◌≡◌, ◌+◌, get_or, take, drop};
 ghost use Rattle.number.specs.Number.{dash};
-ghost use Rattle.line.specs.Fields.{tab, index_of, before};
+ghost use Rattle.number.specs.Reader.{natural_in};
+ghost use Rattle.declare.specs.Answers.{answer_of};
+ghost use Rattle.line.specs.Fields.{LF, tab, index_of, before};
 ghost use Rattle.line.specs.Scans.{line_scan, field_scan, reading_by};
-ghost use Rattle.line.specs.Values.{fault_number, natural_answer, number_field, reading_field, byte_read, reading_read};
-ghost use Rattle.declare.specs.Refusals.{number_of};
+ghost use Rattle.line.specs.Texts.{has_fields, at_line, line_of};
+ghost use Rattle.line.specs.Values.{natural_answer, number_field, reading_field};
 
 use declare::{Reading, Refusal};
-use number::{Fault, IntegerAnswer, NaturalAnswer, Reader};
+use number::Reader;
 
 // The bytes that end a line, and a field before its last.
 pub const LINE_FEED: u8 = b'\n';
 
 pub const TAB: u8 = b'\t';
 
-// Whether a text was accepted; if not, why and at which line.
+// What the first line of a text holds, and where the next one begins.
 #[derive(Clone, Copy)]
-pub enum Outcome {
-    Accepted,
-    Refused(Refusal, usize),
+pub struct Line<T> {
+    pub answer: Result<T, Refusal>,
+    pub next: usize,
+}
+
+// What the first field of a part holds, and the field's length.
+#[derive(Clone, Copy)]
+pub struct Field<T> {
+    pub answer: T,
+    pub length: usize,
+}
+
+// Why a text is refused, and at which line.
+#[derive(Clone, Copy)]
+pub struct LineRefusal {
+    pub refusal: Refusal,
+    pub line: usize,
+}
+
+// An answer about a line, with its number beside a refusal.
+#[tactic(auto, unfolding(crate::specs::Texts::at_line))]
+pub fn at_line<T: Copy>(answer: Result<T, Refusal>, line: usize) -> Result<T, LineRefusal>
+    ensures { result ≡ at_line line answer }
+{
+    answer.map_err(|refusal| LineRefusal { refusal, line })
 }
 
 #[derive(Clone, Copy)]
@@ -35,158 +59,119 @@ pub fn scan_line(text: &[u8]) -> LineScan
     ensures { result ≡ line_scan text.now }
 {
     let mut tabs: usize = 0;
-    let mut i = 0;
-    while i < text.len() {
-        let byte = text[i];
+    for (i, byte) in text.iter().enumerate() {
         // Most bytes are above LF and tab, and need one test.
-        if byte <= LINE_FEED {
-            if byte == LINE_FEED {
-                return LineScan { end: i, tabs };
-            }
-            if byte == TAB {
-                tabs += 1;
+        if *byte <= LINE_FEED {
+            match *byte {
+                LINE_FEED => return LineScan { end: i, tabs },
+                TAB => tabs += 1,
+                _ => (),
             }
         }
-        i += 1;
     }
-    LineScan { end: i, tabs }
+    LineScan {
+        end: text.len(),
+        tabs,
+    }
+}
+
+// The checks of the first line before its fields: LF ends it, and it has so many tabs.
+pub fn check_line(text: &[u8], tabs: usize) -> Line<()>
+    ensures answer_value { answer_of result.answer ≡ line_of (has_fields (tabs + 1)) text.now }
+    ensures next_value { result.next ≡ index_of LF text.now + 1 }
+{
+    let scan = scan_line(text);
+    let answer = if text.len() <= scan.end {
+        Err(Refusal::NoLineEnd)
+    } else if scan.tabs != tabs {
+        Err(Refusal::FieldCount)
+    } else {
+        Ok(())
+    };
+    Line {
+        answer,
+        next: scan.end + 1,
+    }
 }
 
 // Where `byte` stands first, or the length.
 pub fn find(s: &[u8], byte: u8) -> usize
     ensures { result ≡ index_of byte s.now }
 {
-    let mut i = 0;
-    while i < s.len() {
-        if s[i] == byte {
-            return i;
-        }
-        i += 1;
-    }
-    i
-}
-
-#[derive(Clone, Copy)]
-pub struct FieldScan {
-    pub reader: Reader,
-    pub length: usize,
+    s.iter().position(|b| *b == byte).unwrap_or(s.len())
 }
 
 // The number reader over the first field, which ends at the separator or with the part.
-pub fn scan_field(part: &[u8], separator: u8) -> FieldScan
+pub fn scan_field(part: &[u8], separator: u8) -> Field<Reader>
     ensures { result ≡ field_scan separator part.now }
 {
     let mut reader = Reader::new();
-    let mut i = 0;
-    while i < part.len() {
-        if part[i] == separator {
-            return FieldScan { reader, length: i };
+    for (i, byte) in part.iter().enumerate() {
+        if *byte == separator {
+            return Field {
+                answer: reader,
+                length: i,
+            };
         }
-        reader = reader.push(part[i]);
-        i += 1;
+        reader = reader.push(*byte);
     }
-    FieldScan { reader, length: i }
+    Field {
+        answer: reader,
+        length: part.len(),
+    }
 }
 
-// The refusal of a field that is not a number of its range.
-pub fn refusal_of(fault: Fault) -> Refusal
-    ensures { number_of result ≡ fault_number fault }
+#[tactic(auto, unfolding(declare::specs::Answers::answer_of))]
+fn number_answer(reader: Reader, low: u32, high: u32) -> Result<u32, Refusal>
+    ensures { answer_of result ≡ natural_answer (natural_in low high reader) }
 {
-    match fault {
-        Fault::Form => Refusal::NumberForm,
-        Fault::Range => Refusal::OutOfRange,
-    }
-}
-
-#[derive(Clone, Copy)]
-pub struct NumberField {
-    pub answer: NaturalAnswer,
-    pub length: usize,
+    Ok(reader.natural(low, high)?)
 }
 
 // The first field as an unsigned number from `low` to `high`.
-pub fn number_field(part: &[u8], separator: u8, low: u32, high: u32) -> NumberField
-    ensures answer_value { natural_answer result.answer ≡ number_field low high (before separator part.now) }
+#[tactic(auto, unfolding(crate::specs::Scans::field_scan))]
+pub fn number_field(part: &[u8], separator: u8, low: u32, high: u32) -> Field<Result<u32, Refusal>>
+    ensures answer_value { answer_of result.answer ≡ number_field low high (before separator part.now) }
     ensures length_value { result.length ≡ index_of separator part.now }
 {
     let scan = scan_field(part, separator);
-    let reader = scan.reader;
-    let answer = reader.natural(low, high);
-    NumberField {
-        answer,
+    Field {
+        answer: number_answer(scan.answer, low, high),
         length: scan.length,
     }
 }
 
-#[derive(Clone, Copy)]
-pub enum ByteAnswer {
-    Byte(u8),
-    NoByte(Fault),
-}
-
-#[derive(Clone, Copy)]
-pub struct ByteField {
-    pub answer: ByteAnswer,
-    pub length: usize,
-}
-
 // The first field, which a tab ends, as a number from 1 to `high`.
-pub fn byte_field(part: &[u8], high: u8) -> ByteField
-    ensures answer_value { byte_read result.answer ≡ number_field 1 high (before tab part.now) }
+pub fn byte_field(part: &[u8], high: u8) -> Field<Result<u8, Refusal>>
+    ensures answer_value { answer_of result.answer ≡ number_field 1 high (before tab part.now) }
     ensures length_value { result.length ≡ index_of tab part.now }
 {
-    let field = number_field(part, TAB, 1, high as u32);
-    let number = field.answer;
-    let length = field.length;
-    match number {
-        NaturalAnswer::Natural(value) => {
-            let byte = value as u8;
-            ByteField {
-                answer: ByteAnswer::Byte(byte),
-                length,
-            }
-        }
-        NaturalAnswer::NoNatural(fault) => ByteField {
-            answer: ByteAnswer::NoByte(fault),
-            length,
-        },
+    let field = number_field(part, TAB, 1, u32::from(high));
+    Field {
+        answer: field.answer.map(|value| value as u8),
+        length: field.length,
     }
 }
 
-#[derive(Clone, Copy)]
-pub enum ReadingAnswer {
-    Read(Reading),
-    NoReading(Fault),
-}
-
-#[derive(Clone, Copy)]
-pub struct ReadingField {
-    pub answer: ReadingAnswer,
-    pub length: usize,
-}
-
-fn reading_answer(reader: Reader) -> ReadingAnswer
-    ensures { reading_read result ≡ reading_by reader }
+#[tactic(auto, unfolding(crate::specs::Scans::reading_by, declare::specs::Answers::answer_of))]
+fn reading_answer(reader: Reader) -> Result<Reading, Refusal>
+    ensures { answer_of result ≡ reading_by reader }
 {
     if reader.is_dash() {
-        return ReadingAnswer::Read(Reading::Blank);
+        return Ok(None);
     }
-    match reader.integer() {
-        IntegerAnswer::Integer(value) => ReadingAnswer::Read(Reading::Value(value)),
-        IntegerAnswer::NoInteger(fault) => ReadingAnswer::NoReading(fault),
-    }
+    Ok(Some(reader.integer()?))
 }
 
 // The first field as a reading.
-pub fn reading_field(part: &[u8], separator: u8) -> ReadingField
-    ensures answer_value { reading_read result.answer ≡ reading_field (before separator part.now) }
+#[tactic(auto, unfolding(crate::specs::Scans::field_scan))]
+pub fn reading_field(part: &[u8], separator: u8) -> Field<Result<Reading, Refusal>>
+    ensures answer_value { answer_of result.answer ≡ reading_field (before separator part.now) }
     ensures length_value { result.length ≡ index_of separator part.now }
 {
     let scan = scan_field(part, separator);
-    let reader = scan.reader;
-    let answer = reading_answer(reader);
-    ReadingField {
-        answer,
+    Field {
+        answer: reading_answer(scan.answer),
         length: scan.length,
     }
 }
@@ -195,37 +180,34 @@ pub fn reading_field(part: &[u8], separator: u8) -> ReadingField
 pub fn byte_at(s: &[u8], i: usize) -> u8
     ensures { result ≡ get_or s.now i 0 }
 {
-    if i < s.len() { s[i] } else { 0 }
+    s.get(i).copied().unwrap_or(0)
 }
 
 // The part from `i` on, empty past the end.
 pub fn part_from(s: &[u8], i: usize) -> &[u8]
     ensures { result.now ≡ drop i s.now }
 {
-    if i <= s.len() { &s[i..] } else { &s[..0] }
+    s.get(i..).unwrap_or_default()
 }
 
 // The part before `i`, or all of it.
 pub fn part_before(s: &[u8], i: usize) -> &[u8]
     ensures { result.now ≡ take i s.now }
 {
-    if i <= s.len() { &s[..i] } else { s }
+    s.get(..i).unwrap_or(s)
 }
 
 // What follows the separator that stands at `length`; nothing past the end.
 pub fn rest_of(part: &[u8], length: usize) -> &[u8]
     ensures { result.now ≡ drop (length + 1) part.now }
 {
-    if length < part.len() {
-        &part[length + 1..]
-    } else {
-        &part[..0]
-    }
+    part_from(part_from(part, length), 1)
 }
 
 // `-` alone.
+#[tactic(auto, unfolding(number::specs::Number::dash, number::specs::Number::none))]
 pub fn is_dash(field: &[u8]) -> bool
     ensures { result ≡ dash field.now }
 {
-    (field.len() == 1) & (byte_at(field, 0) == b'-')
+    matches!(field, b"-")
 }

@@ -1,5 +1,5 @@
 -- "A finished cycle: the notebook reads both texts, the rules first, and gives the closed run."
-use Rattle.std.specs.Prelude.{◌≡◌, List, ℕ, length}
+use Rattle.std.specs.Prelude.{◌≡◌, List, ℕ, length, Result, Ok, Err}
 use Rattle.declare.specs.declared.Event.{Event}
 use Rattle.declare.specs.declared.Rule.{Rule}
 use Rattle.declare.specs.declared.Table.{Table}
@@ -12,7 +12,7 @@ use Rattle.line.specs.Texts.{Records, All, Stop}
 use Rattle.cycle_text.specs.Cycle.{cycle_text_of}
 use Rattle.rule_text.specs.Rules.{rules_text_of}
 use Rattle.rule_text.specs.Reads.{rules_in}
-use Rattle.notebook.specs.Types.{Text, Rules, Cycle, Outcome, Closed, Refused, Notebook}
+use Rattle.notebook.specs.Types.{Text, Rules, Cycle, TextRefusal, Notebook}
 
 -- a closed run; or the text that is refused, the number, and the line
 pub data Reply : Type 0 where
@@ -34,9 +34,9 @@ notebook_of rules cycle = finished_of (rules_text_of rules) (cycle_text_of cycle
 
 -- ---- the code's answer
 
-unfoldable pub outcome_reply : Run → Outcome → Reply
-outcome_reply run Closed = read_as run
-outcome_reply run (Refused text cause line) = not_read text (number_of cause) line
+unfoldable pub outcome_reply : Run → Result (Unit {0}) TextRefusal → Reply
+outcome_reply run (Ok closed) = read_as run
+outcome_reply run (Err r) = not_read r.text (number_of r.refusal) r.line
 
 unfoldable pub notebook_reply : Notebook → Reply
 notebook_reply r = outcome_reply r.run r.outcome

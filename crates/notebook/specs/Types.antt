@@ -1,7 +1,7 @@
 -- The declared types, under one name each.
 pub use Rattle.declare.specs.declared.Refusal.{Refusal}
+pub use Rattle.line.specs.declared.LineRefusal.{LineRefusal}
 pub use Rattle.notebook.specs.declared.Text.{Text}
 pub use Rattle.notebook.specs.declared.Text.TheVariants.{Rules, Cycle}
-pub use Rattle.notebook.specs.declared.Outcome.{Outcome}
-pub use Rattle.notebook.specs.declared.Outcome.TheVariants.{Closed, Refused}
+pub use Rattle.notebook.specs.declared.TextRefusal.{TextRefusal}
 pub use Rattle.notebook.specs.declared.Notebook.{Notebook}

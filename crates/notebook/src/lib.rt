@@ -2,13 +2,14 @@
 #![tactic(auto)]
 
 ghost use Rattle.std.specs.Prelude.{◌≡◌};
-ghost use Rattle.run.specs.Start.{new_run};
-ghost use Rattle.notebook.specs.Types.{Refused};
+ghost use Rattle.declare.specs.Refusals.{number_of};
 ghost use Rattle.cycle_text.specs.Cycle.{cycle_text_of};
-ghost use Rattle.notebook.specs.Notebook.{read_with, notebook_of, notebook_reply, notebook_run, Reads};
+ghost use Rattle.notebook.specs.Notebook.{not_read, read_with, notebook_of, notebook_reply, notebook_run, Reads};
 
 use cycle_text::read_cycle;
+use declare::slots::empty_table;
 use declare::{Refusal, Table};
+use line::LineRefusal;
 use rule_text::read_rules;
 use run::Run;
 use run::start::new_run;
@@ -19,24 +20,32 @@ pub enum Text {
     Cycle,
 }
 
-// The run is closed; or one of the texts is refused, with the cause and the line.
+// Why a text is refused, and at which line.
 #[derive(Clone, Copy)]
-pub enum Outcome {
-    Closed,
-    Refused(Text, Refusal, usize),
+pub struct TextRefusal {
+    pub text: Text,
+    pub refusal: Refusal,
+    pub line: usize,
 }
 
+// The run is closed, or one of the texts is refused. A run stands beside either outcome
+// (notebook_run), so it is not in it.
 #[derive(Clone, Copy)]
 pub struct Notebook {
-    pub outcome: Outcome,
+    pub outcome: Result<(), TextRefusal>,
     pub run: Run,
 }
 
-fn refused(table: Table, text: Text, cause: Refusal, line: usize) -> Notebook
-    ensures { (result.outcome ≡ Refused text cause line) × (result.run ≡ new_run table) }
+// A refusal of a text, beside the new run of the table.
+fn refused(table: Table, text: Text, cause: LineRefusal) -> Notebook
+    ensures { Reads (not_read text (number_of cause.refusal) cause.line) table result }
 {
     Notebook {
-        outcome: Outcome::Refused(text, cause, line),
+        outcome: Err(TextRefusal {
+            text,
+            refusal: cause.refusal,
+            line: cause.line,
+        }),
         run: new_run(table),
     }
 }
@@ -45,17 +54,15 @@ fn refused(table: Table, text: Text, cause: Refusal, line: usize) -> Notebook
 fn read_with(table: Table, cycle: &[u8]) -> Notebook
     ensures { Reads (read_with table (cycle_text_of cycle.now)) table result }
 {
-    let read = read_cycle(cycle);
-    let outcome = read.outcome;
-    match outcome {
-        line::Outcome::Refused(cause, line) => refused(table, Text::Cycle, cause, line),
-        line::Outcome::Accepted => {
+    match read_cycle(cycle) {
+        Ok(read) => {
             let events = read.events;
             Notebook {
-                outcome: Outcome::Closed,
+                outcome: Ok(()),
                 run: Run::finished(table, read.count, events),
             }
-        }
+        },
+        Err(cause) => refused(table, Text::Cycle, cause),
     }
 }
 
@@ -65,11 +72,8 @@ pub fn read_notebook(rules: &[u8], cycle: &[u8]) -> Notebook
     ensures result_value { notebook_reply result ≡ notebook_of rules.now cycle.now }
     ensures run_value { result.run ≡ notebook_run rules.now cycle.now }
 {
-    let read = read_rules(rules);
-    let table = read.table;
-    let outcome = read.outcome;
-    match outcome {
-        line::Outcome::Refused(cause, line) => refused(table, Text::Rules, cause, line),
-        line::Outcome::Accepted => read_with(table, cycle),
+    match read_rules(rules) {
+        Ok(table) => read_with(table, cycle),
+        Err(cause) => refused(empty_table(), Text::Rules, cause),
     }
 }

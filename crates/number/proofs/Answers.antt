@@ -5,16 +5,16 @@ use mathlib.Core.Path.{◌≡◌, refl, sym, ◌∙◌, ap}
 use mathlib.Core.Bool.{Bool, true, false, cond, ◌&&◌}
 use mathlib.Core.Logic.{◌⊎◌, inl, inr, ⊎_elim}
 use mathlib.Core.List.{List, [], ◌∷◌}
-use Prim.Native.Nat.{ℕ, ◌+◌, ◌-◌, ◌*◌, ◌≤◌, ◌<◌, min}
+use Prim.Native.Nat.{ℕ, zero, suc, ◌+◌, ◌-◌, ◌*◌, ◌≤◌, ◌<◌, min}
 use native.Mathlib.Omega.{arith}
 use borrow.Author.Tests.{ltb-true, ltb-false, lt-leb, eqb-true}
 use lib.Dec.{leb, ltb, eqb}
 use lib.IntN.{pos, neg_ℤ}
-use Rattle.number.specs.Types.{Empty, Minus, Zero, Digits, Malformed, Form, Range, Natural, NoNatural, NoInteger}
+use Rattle.std.specs.Prelude.{Ok, Err}
+use Rattle.number.specs.Types.{Empty, Minus, Zero, Digits, Malformed, Form, Range}
 use Rattle.number.specs.Number.{digit, digits, none, positive, dash, value_from, value_of, integer_value, in_natural_range, natural_of, in_signed_range, integer_of}
 use Rattle.number.specs.Reader.{bound, extended, first_digit, pushed, after, natural_in, integer_in, dash_in, AnswersExactly}
 use Rattle.number.proofs.Digits.{natural_empty, integer_empty, natural_zero, natural_digit, natural_dash, positive_zero, positive_digit, integer_dash, integer_natural}
-use Rattle.number.proofs.Signed.{signed_low, signed_high}
 
 -- ---- the reader after further bytes
 
@@ -73,13 +73,22 @@ exact_or_above v w h = go (ltb v bound) refl
     go true e = inl (omega (arith, ltb-true v bound e))
     go false e = inr (ltb-false v bound e, omega (arith, ltb-false v bound e))
 
-natural_above : (low high v : ℕ) → high < bound → bound ≤ v → in_natural_range low high v ≡ NoNatural Range
+natural_above : (low high v : ℕ) → high < bound → bound ≤ v → in_natural_range low high v ≡ Err Range
 unfolding in_natural_range
 natural_above low high v h l = rw (lt-leb v high (omega arith)) (go (leb low v))
   where
-    go : (t : Bool) → cond (t && false) (Natural v) (NoNatural Range) ≡ NoNatural Range
+    go : (t : Bool) → cond (t && false) (Ok v) (Err Range) ≡ Err Range
     go true = refl
     go false = refl
+
+signed_low : (v : ℕ) → 2147483648 < v → in_signed_range (neg_ℤ (pos v)) ≡ Err Range
+unfolding in_signed_range
+signed_low zero h = absurd (omega arith)
+signed_low (suc v) h = simp (lt-leb v 2147483647 (omega arith))
+
+signed_high : (v : ℕ) → 2147483647 < v → in_signed_range (pos v) ≡ Err Range
+unfolding in_signed_range
+signed_high v h = simp (lt-leb v 2147483647 h)
 
 module _ (v w : ℕ) (same : min v bound ≡ min w bound) where
   natural_same : (low high : ℕ) → high < bound → in_natural_range low high v ≡ in_natural_range low high w
@@ -99,16 +108,16 @@ module _ (v w : ℕ) (same : min v bound ≡ min w bound) where
 -- ---- unsigned numbers
 
 module _ (low high : ℕ) where
-  natural_minus : (bs : List ℕ) → natural_in low high (after Minus bs) ≡ NoNatural Form
+  natural_minus : (bs : List ℕ) → natural_in low high (after Minus bs) ≡ Err Form
   unfolding after pushed natural_in
   natural_minus [] = refl
   natural_minus (b ∷ bs) = rw (first_after true b bs) (go (positive (b ∷ bs)))
     where
-      go : (t : Bool) → natural_in low high (cond t (Digits true (kept_from (b - 48) bs)) Malformed) ≡ NoNatural Form
+      go : (t : Bool) → natural_in low high (cond t (Digits true (kept_from (b - 48) bs)) Malformed) ≡ Err Form
       go true = refl
       go false = refl
 
-  natural_zeros : (bs : List ℕ) → natural_in low high (after Zero bs) ≡ cond (none bs) (in_natural_range low high (value_from 0 bs)) (NoNatural Form)
+  natural_zeros : (bs : List ℕ) → natural_in low high (after Zero bs) ≡ cond (none bs) (in_natural_range low high (value_from 0 bs)) (Err Form)
   unfolding none natural_in value_from
   natural_zeros [] = rw (zero_after [])
   natural_zeros (b ∷ bs) = rw (zero_after (b ∷ bs))
@@ -127,16 +136,16 @@ module _ (low high : ℕ) where
 
 -- ---- signed numbers
 
-integer_minus : (bs : List ℕ) → integer_in (after Minus bs) ≡ cond (positive bs) (in_signed_range (neg_ℤ (pos (value_of bs)))) (NoInteger Form)
+integer_minus : (bs : List ℕ) → integer_in (after Minus bs) ≡ cond (positive bs) (in_signed_range (neg_ℤ (pos (value_of bs)))) (Err Form)
 unfolding after pushed integer_in positive
 integer_minus [] = refl
 integer_minus (b ∷ bs) = rw (first_after true b bs) (go (positive (b ∷ bs)))
   where
-    go : (t : Bool) → integer_in (cond t (Digits true (kept_from (b - 48) bs)) Malformed) ≡ cond t (in_signed_range (neg_ℤ (pos (value_of (b ∷ bs))))) (NoInteger Form)
+    go : (t : Bool) → integer_in (cond t (Digits true (kept_from (b - 48) bs)) Malformed) ≡ cond t (in_signed_range (neg_ℤ (pos (value_of (b ∷ bs))))) (Err Form)
     go true = down_same _ _ (kept_first b bs)
     go false = refl
 
-integer_zeros : (bs : List ℕ) → integer_in (after Zero bs) ≡ cond (none bs) (in_signed_range (pos (value_from 0 bs))) (NoInteger Form)
+integer_zeros : (bs : List ℕ) → integer_in (after Zero bs) ≡ cond (none bs) (in_signed_range (pos (value_from 0 bs))) (Err Form)
 unfolding none integer_in value_from
 integer_zeros [] = rw (zero_after [])
 integer_zeros (b ∷ bs) = rw (zero_after (b ∷ bs))

@@ -1,6 +1,6 @@
 -- The laws of numbers, for this crate and those above it.
+pub mod Results
 pub mod Digits
-pub mod Signed
 pub mod Answers
 pub mod Once
 pub mod Written

@@ -2,82 +2,84 @@
 use mathlib.Core.Path.{◌≡◌, refl}
 use mathlib.Core.Bool.{true, false}
 use mathlib.Core.List.{List, [], ◌∷◌, map}
-use lib.IntN.{pos, negsuc}
-use Rattle.number.specs.Types.{Reader, Empty, Minus, Zero, Digits, Malformed, Form, Range, NaturalAnswer, Natural, NoNatural, IntegerAnswer, Integer, NoInteger}
+use lib.IntN.{ℤ, pos, negsuc}
+use Prim.Native.Nat.{ℕ}
+use Rattle.std.specs.Prelude.{Result, Ok, Err}
+use Rattle.number.specs.Types.{Reader, Empty, Minus, Zero, Digits, Malformed, Fault, Form, Range}
 use Rattle.number.specs.Number.{digit, digits, none, zero_alone, positive, negative, natural_form, integer_form, value_from, value_of, integer_value, in_natural_range, natural_of, in_signed_range, integer_of}
 use Rattle.number.specs.Reader.{bound, extended, first_digit, pushed, after}
 use Rattle.number.specs.Written.{digits_in, digits_of, integer_text}
 use Rattle.number.proofs.Quoted.{bytes, Case, ◌gives◌, Checked}
 
 -- as a time
-abbrev times : List (Case NaturalAnswer)
+abbrev times : List (Case (Result ℕ Fault))
 times =
-    "0" gives Natural 0
-    ∷ "7" gives Natural 7
-    ∷ "10" gives Natural 10
-    ∷ "4294967295" gives Natural 4294967295
-    ∷ "4294967296" gives NoNatural Range
+    "0" gives Ok 0
+    ∷ "7" gives Ok 7
+    ∷ "10" gives Ok 10
+    ∷ "4294967295" gives Ok 4294967295
+    ∷ "4294967296" gives Err Range
     -- 2³² + 5, 2⁶⁴ and 2⁶⁴ + 5
-    ∷ "4294967301" gives NoNatural Range
-    ∷ "18446744073709551616" gives NoNatural Range
-    ∷ "18446744073709551621" gives NoNatural Range
-    ∷ "99999999999999999999999999999999" gives NoNatural Range
+    ∷ "4294967301" gives Err Range
+    ∷ "18446744073709551616" gives Err Range
+    ∷ "18446744073709551621" gives Err Range
+    ∷ "99999999999999999999999999999999" gives Err Range
     -- a sign is not of the form of an unsigned number, nor is a zero before other digits
-    ∷ "" gives NoNatural Form
-    ∷ "-" gives NoNatural Form
-    ∷ "-0" gives NoNatural Form
-    ∷ "-5" gives NoNatural Form
-    ∷ "+1" gives NoNatural Form
-    ∷ "01" gives NoNatural Form
-    ∷ "00" gives NoNatural Form
-    ∷ "0x" gives NoNatural Form
-    ∷ "1a" gives NoNatural Form
-    ∷ " 1" gives NoNatural Form
-    ∷ "1 " gives NoNatural Form
-    ∷ "1\r" gives NoNatural Form
-    ∷ "1.0" gives NoNatural Form
-    ∷ "99999999999999999999999999999999x" gives NoNatural Form
+    ∷ "" gives Err Form
+    ∷ "-" gives Err Form
+    ∷ "-0" gives Err Form
+    ∷ "-5" gives Err Form
+    ∷ "+1" gives Err Form
+    ∷ "01" gives Err Form
+    ∷ "00" gives Err Form
+    ∷ "0x" gives Err Form
+    ∷ "1a" gives Err Form
+    ∷ " 1" gives Err Form
+    ∷ "1 " gives Err Form
+    ∷ "1\r" gives Err Form
+    ∷ "1.0" gives Err Form
+    ∷ "99999999999999999999999999999999x" gives Err Form
     ∷ []
 
-abbrev activities : List (Case NaturalAnswer)
+abbrev activities : List (Case (Result ℕ Fault))
 activities =
-    "1" gives Natural 1
-    ∷ "64" gives Natural 64
-    ∷ "0" gives NoNatural Range
-    ∷ "65" gives NoNatural Range
+    "1" gives Ok 1
+    ∷ "64" gives Ok 64
+    ∷ "0" gives Err Range
+    ∷ "65" gives Err Range
     -- 2³² + 1 and 2⁶⁴ + 1
-    ∷ "4294967297" gives NoNatural Range
-    ∷ "18446744073709551617" gives NoNatural Range
-    ∷ "064" gives NoNatural Form
-    ∷ "-1" gives NoNatural Form
+    ∷ "4294967297" gives Err Range
+    ∷ "18446744073709551617" gives Err Range
+    ∷ "064" gives Err Form
+    ∷ "-1" gives Err Form
     ∷ []
 
-abbrev integers : List (Case IntegerAnswer)
+abbrev integers : List (Case (Result ℤ Fault))
 integers =
-    "0" gives Integer (pos 0)
-    ∷ "7" gives Integer (pos 7)
-    ∷ "-1" gives Integer (negsuc 0)
-    ∷ "2147483647" gives Integer (pos 2147483647)
-    ∷ "-2147483648" gives Integer (negsuc 2147483647)
-    ∷ "2147483648" gives NoInteger Range
-    ∷ "-2147483649" gives NoInteger Range
-    ∷ "4294967296" gives NoInteger Range
-    ∷ "-4294967296" gives NoInteger Range
-    ∷ "18446744073709551623" gives NoInteger Range
-    ∷ "-18446744073709551623" gives NoInteger Range
-    ∷ "99999999999999999999999999999999" gives NoInteger Range
-    ∷ "-99999999999999999999999999999999" gives NoInteger Range
-    ∷ "" gives NoInteger Form
-    ∷ "-" gives NoInteger Form
-    ∷ "-0" gives NoInteger Form
-    ∷ "-01" gives NoInteger Form
-    ∷ "--1" gives NoInteger Form
-    ∷ "+1" gives NoInteger Form
-    ∷ "01" gives NoInteger Form
-    ∷ "1-" gives NoInteger Form
-    ∷ "- 1" gives NoInteger Form
-    ∷ "-1\r" gives NoInteger Form
-    ∷ "-99999999999999999999999999999999x" gives NoInteger Form
+    "0" gives Ok (pos 0)
+    ∷ "7" gives Ok (pos 7)
+    ∷ "-1" gives Ok (negsuc 0)
+    ∷ "2147483647" gives Ok (pos 2147483647)
+    ∷ "-2147483648" gives Ok (negsuc 2147483647)
+    ∷ "2147483648" gives Err Range
+    ∷ "-2147483649" gives Err Range
+    ∷ "4294967296" gives Err Range
+    ∷ "-4294967296" gives Err Range
+    ∷ "18446744073709551623" gives Err Range
+    ∷ "-18446744073709551623" gives Err Range
+    ∷ "99999999999999999999999999999999" gives Err Range
+    ∷ "-99999999999999999999999999999999" gives Err Range
+    ∷ "" gives Err Form
+    ∷ "-" gives Err Form
+    ∷ "-0" gives Err Form
+    ∷ "-01" gives Err Form
+    ∷ "--1" gives Err Form
+    ∷ "+1" gives Err Form
+    ∷ "01" gives Err Form
+    ∷ "1-" gives Err Form
+    ∷ "- 1" gives Err Form
+    ∷ "-1\r" gives Err Form
+    ∷ "-99999999999999999999999999999999x" gives Err Form
     ∷ []
 
 -- what the reader keeps of them

@@ -9,9 +9,10 @@ use borrow.Author.Tests.{leb-true, le-leb, ltb-true, ltb-false, lt-ltb, le-ltb, 
 use lib.Dec.{leb, ltb, eqb}
 use lib.IntN.{ℤ, pos, negsuc, neg_ℤ}
 use lib.Signed.{le_z}
-use Rattle.number.specs.Types.{Fault, Natural, NoNatural, Integer, NoInteger}
+use Rattle.std.specs.Prelude.{Ok}
 use Rattle.number.specs.Number.{digit, digits, none, positive, natural_form, integer_form, dash, value_from, value_of, integer_value, in_natural_range, natural_of, in_signed_range, integer_of}
 use Rattle.number.specs.Written.{digits_in, digits_of, integer_text}
+use Rattle.number.proofs.Results.{no_err, ok_ok}
 use Rattle.number.proofs.Digits.{and_left, and_right, digit_low, digit_high, is_digit, natural_empty, integer_empty, natural_zero, natural_digit, positive_zero, positive_digit, natural_dash, integer_dash, integer_natural}
 
 -- ---- the digits of a number, by its size
@@ -121,7 +122,7 @@ written_digits n = natural_digits (digits_of n) (written_form n)
 
 -- ---- reading what is written
 
-pub read_natural : (low high n : ℕ) → low ≤ n → n ≤ high → natural_of low high (digits_of n) ≡ Natural n
+pub read_natural : (low high n : ℕ) → low ≤ n → n ≤ high → natural_of low high (digits_of n) ≡ Ok n
 unfolding natural_of in_natural_range
 read_natural low high n l h = rw (written_form n, written_value n, le-leb low n l, le-leb n high h)
 
@@ -226,64 +227,48 @@ integer_back (b ∷ bs) h = go (eqb b 45) refl
 
 -- ---- the same of the answers
 
-no_natural : {f : Fault} {v : ℕ} → NoNatural f ≡ Natural v → ⊥
-no_natural e =
-    let z : ◌≡◌ {A = ℕ} 0 1 = cc in
-    omega arith
-
-no_integer : {f : Fault} {z : ℤ} → NoInteger f ≡ Integer z → ⊥
-no_integer e =
-    let z : ◌≡◌ {A = ℕ} 0 1 = cc in
-    omega arith
-
-natural_same : {v w : ℕ} → Natural v ≡ Natural w → v ≡ w
-natural_same e = cc
-
-integer_same : {y z : ℤ} → Integer y ≡ Integer z → y ≡ z
-integer_same e = cc
-
 -- a number that was read: it is written as the bytes, and is in its range
 pub record NaturalRead (least most : ℕ) (bs : List ℕ) (v : ℕ) : Type 0 where
   pub text : digits_of v ≡ bs
   pub low : least ≤ v
   pub high : v ≤ most
 
-pub natural_read : (least most : ℕ) (bs : List ℕ) (v : ℕ) → natural_of least most bs ≡ Natural v → NaturalRead least most bs v
+pub natural_read : (least most : ℕ) (bs : List ℕ) (v : ℕ) → natural_of least most bs ≡ Ok v → NaturalRead least most bs v
 unfolding natural_of in_natural_range
 natural_read least most bs v h = go (natural_form bs) (leb least (value_of bs)) (leb (value_of bs) most) refl refl refl
   where
     go : (s t u : Bool) → natural_form bs ≡ s → leb least (value_of bs) ≡ t → leb (value_of bs) most ≡ u → NaturalRead least most bs v
-    go false t u p q w = absurd (no_natural (rw p at h))
-    go true false u p q w = absurd (no_natural (rw (p, q) at h))
-    go true true false p q w = absurd (no_natural (rw (p, q, w) at h))
+    go false t u p q w = absurd (no_err (sym (rw p at h)))
+    go true false u p q w = absurd (no_err (sym (rw (p, q) at h)))
+    go true true false p q w = absurd (no_err (sym (rw (p, q, w) at h)))
     go true true true p q w =
-        let e : value_of bs ≡ v = natural_same (rw (p, q, w) at h) in
+        let e : value_of bs ≡ v = ok_ok (rw (p, q, w) at h) in
         record {
           text = rw (← e) (natural_back bs p);
           low = rw (← e) (leb-true least (value_of bs) q);
           high = rw (← e) (leb-true (value_of bs) most w);
         }
 
-in_range_lem : (y z : ℤ) → in_signed_range y ≡ Integer z → y ≡ z
+in_range_lem : (y z : ℤ) → in_signed_range y ≡ Ok z → y ≡ z
 unfolding in_signed_range
 in_range_lem y z h = go (le_z (negsuc 2147483647) y && le_z y (pos 2147483647)) refl
   where
     go : (t : Bool) → (le_z (negsuc 2147483647) y && le_z y (pos 2147483647)) ≡ t → y ≡ z
-    go true p = integer_same (rw p at h)
-    go false p = absurd (no_integer (rw p at h))
+    go true p = ok_ok (rw p at h)
+    go false p = absurd (no_err (sym (rw p at h)))
 
 pub record IntegerRead (bs : List ℕ) (z : ℤ) : Type 0 where
   pub text : integer_text z ≡ bs
-  pub range : in_signed_range z ≡ Integer z
+  pub range : in_signed_range z ≡ Ok z
 
-pub integer_read : (bs : List ℕ) (z : ℤ) → integer_of bs ≡ Integer z → IntegerRead bs z
+pub integer_read : (bs : List ℕ) (z : ℤ) → integer_of bs ≡ Ok z → IntegerRead bs z
 unfolding integer_of
 integer_read bs z h = go (integer_form bs) refl
   where
     go : (t : Bool) → integer_form bs ≡ t → IntegerRead bs z
-    go false p = absurd (no_integer (rw p at h))
+    go false p = absurd (no_err (sym (rw p at h)))
     go true p =
-        let g : in_signed_range (integer_value bs) ≡ Integer z = rw p at h in
+        let g : in_signed_range (integer_value bs) ≡ Ok z = rw p at h in
         let e : integer_value bs ≡ z = in_range_lem (integer_value bs) z g in
         record {
           text = rw (← e) (integer_back bs p);

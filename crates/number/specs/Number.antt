@@ -1,8 +1,8 @@
 -- What document 01 says of numbers: "a number is `0`, or a non-zero digit and digits; readings and
 -- k may have one `-` before the non-zero digit". A number's text is a list of bytes.
-use Rattle.std.specs.Prelude.{Bool, true, false, not, cond, ◌&&◌, ◌||◌, List, [], ◌∷◌, ℕ, ◌+◌, ◌-◌, ◌*◌, leb, eqb, ℤ, pos, negsuc, neg_ℤ}
+use Rattle.std.specs.Prelude.{Bool, true, false, not, cond, ◌&&◌, ◌||◌, List, [], ◌∷◌, ℕ, ◌+◌, ◌-◌, ◌*◌, leb, eqb, ℤ, pos, negsuc, neg_ℤ, Result, Ok, Err}
 use Rattle.std.specs.Int.Signed.{le_z}
-use Rattle.number.specs.Types.{Form, Range, NaturalAnswer, Natural, NoNatural, IntegerAnswer, Integer, NoInteger}
+use Rattle.number.specs.Types.{Fault, Form, Range}
 
 -- ---- the form
 
@@ -70,17 +70,22 @@ integer_value (b ∷ bs) = cond (eqb b hyphen) (neg_ℤ (pos (value_of bs))) (po
 
 -- ---- the answer: the value, not of the number form, or outside its range
 
-unfoldable pub in_natural_range : ℕ → ℕ → ℕ → NaturalAnswer
-in_natural_range low high v = cond (leb low v && leb v high) (Natural v) (NoNatural Range)
+-- "field not of the number form" is 2, "number outside its range" 3
+abbrev pub fault_number : Fault → ℕ
+fault_number Form = 2
+fault_number Range = 3
+
+unfoldable pub in_natural_range : ℕ → ℕ → ℕ → Result ℕ Fault
+in_natural_range low high v = cond (leb low v && leb v high) (Ok v) (Err Range)
 
 -- for an unsigned number from low to high
-unfoldable pub natural_of : ℕ → ℕ → List ℕ → NaturalAnswer
-natural_of low high bs = cond (natural_form bs) (in_natural_range low high (value_of bs)) (NoNatural Form)
+unfoldable pub natural_of : ℕ → ℕ → List ℕ → Result ℕ Fault
+natural_of low high bs = cond (natural_form bs) (in_natural_range low high (value_of bs)) (Err Form)
 
 -- −2147483648 to 2147483647
-unfoldable pub in_signed_range : ℤ → IntegerAnswer
-in_signed_range z = cond (le_z (negsuc 2147483647) z && le_z z (pos 2147483647)) (Integer z) (NoInteger Range)
+unfoldable pub in_signed_range : ℤ → Result ℤ Fault
+in_signed_range z = cond (le_z (negsuc 2147483647) z && le_z z (pos 2147483647)) (Ok z) (Err Range)
 
 -- for a reading or k
-unfoldable pub integer_of : List ℕ → IntegerAnswer
-integer_of bs = cond (integer_form bs) (in_signed_range (integer_value bs)) (NoInteger Form)
+unfoldable pub integer_of : List ℕ → Result ℤ Fault
+integer_of bs = cond (integer_form bs) (in_signed_range (integer_value bs)) (Err Form)

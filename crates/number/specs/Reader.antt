@@ -1,7 +1,7 @@
 -- The number reader: it is handed a number's bytes one after another, each once, and keeps a
 -- running value but no bytes.
-use Rattle.std.specs.Prelude.{◌≡◌, Bool, true, false, cond, List, [], ◌∷◌, ◌++◌, ℕ, ◌+◌, ◌-◌, ◌*◌, ◌<◌, ltb, eqb, pos, neg_ℤ}
-use Rattle.number.specs.Types.{Reader, Empty, Minus, Zero, Digits, Malformed, Form, NaturalAnswer, NoNatural, IntegerAnswer, NoInteger}
+use Rattle.std.specs.Prelude.{◌≡◌, Bool, true, false, cond, List, [], ◌∷◌, ◌++◌, ℕ, ◌+◌, ◌-◌, ◌*◌, ◌<◌, ltb, eqb, ℤ, pos, neg_ℤ, Result, Err}
+use Rattle.number.specs.Types.{Reader, Empty, Minus, Zero, Digits, Malformed, Fault, Form}
 use Rattle.number.specs.Number.{digit0, hyphen, digit, dash, in_natural_range, natural_of, in_signed_range, integer_of}
 
 -- ---- a step
@@ -33,21 +33,21 @@ after r (b ∷ bs) = after (pushed r b) bs
 
 -- ---- what the reader answers
 
-unfoldable pub natural_in : ℕ → ℕ → Reader → NaturalAnswer
-natural_in low high Empty = NoNatural Form
-natural_in low high Minus = NoNatural Form
+unfoldable pub natural_in : ℕ → ℕ → Reader → Result ℕ Fault
+natural_in low high Empty = Err Form
+natural_in low high Minus = Err Form
 natural_in low high Zero = in_natural_range low high 0
-natural_in low high (Digits true v) = NoNatural Form
+natural_in low high (Digits true v) = Err Form
 natural_in low high (Digits false v) = in_natural_range low high v
-natural_in low high Malformed = NoNatural Form
+natural_in low high Malformed = Err Form
 
-unfoldable pub integer_in : Reader → IntegerAnswer
-integer_in Empty = NoInteger Form
-integer_in Minus = NoInteger Form
+unfoldable pub integer_in : Reader → Result ℤ Fault
+integer_in Empty = Err Form
+integer_in Minus = Err Form
 integer_in Zero = in_signed_range (pos 0)
 integer_in (Digits true v) = in_signed_range (neg_ℤ (pos v))
 integer_in (Digits false v) = in_signed_range (pos v)
-integer_in Malformed = NoInteger Form
+integer_in Malformed = Err Form
 
 -- the bytes are `-` alone
 unfoldable pub dash_in : Reader → Bool

@@ -1,9 +1,12 @@
 // Document 01's numbers, read a byte at a time: each byte once, a running value and no bytes kept.
 #![tactic(auto)]
 
-ghost use Rattle.std.specs.Prelude.{◌≡◌, ◌<◌, pos, neg_ℤ};
-ghost use Rattle.number.specs.Number.{digit, in_natural_range, in_signed_range};
-ghost use Rattle.number.specs.Reader.{extended, first_digit, pushed, natural_in, integer_in, dash_in};
+ghost use Rattle.std.specs.Prelude.{◌≡◌, ◌<◌};
+ghost use Rattle.declare.specs.Refusals.{number_of};
+ghost use Rattle.number.specs.Number.{fault_number, in_natural_range, in_signed_range};
+ghost use Rattle.number.specs.Reader.{extended, first_digit, pushed, after, natural_in, integer_in, dash_in};
+
+use declare::Refusal;
 
 // What the bytes so far are.
 #[derive(Clone, Copy)]
@@ -22,28 +25,23 @@ pub enum Fault {
     Range,
 }
 
-#[derive(Clone, Copy)]
-pub enum NaturalAnswer {
-    Natural(u32),
-    NoNatural(Fault),
-}
+impl From<Fault> for Refusal {
+    ghost from_gives = { λ fault refusal. number_of refusal ≡ fault_number fault };
 
-#[derive(Clone, Copy)]
-pub enum IntegerAnswer {
-    Integer(i32),
-    NoInteger(Fault),
-}
-
-fn is_digit(byte: u8) -> bool
-    ensures { result ≡ digit byte }
-{
-    b'0' <= byte && byte <= b'9'
+    #[tactic(auto, unfolding(declare::specs::Refusals::number_of))]
+    fn from(fault: Fault) -> Refusal {
+        match fault {
+            Fault::Form => Refusal::NumberForm,
+            Fault::Range => Refusal::OutOfRange,
+        }
+    }
 }
 
 // Above every range.
 const BOUND: u64 = 4294967296;
 
 // One digit more. A value from BOUND on stays as it is, so that none overflows.
+#[tactic(auto, unfolding(crate::specs::Reader::extended, crate::specs::Reader::bound))]
 fn extend(value: u64, digit: u64) -> u64
     requires { digit < 10 }
     ensures { result ≡ extended value digit }
@@ -55,63 +53,47 @@ fn extend(value: u64, digit: u64) -> u64
     }
 }
 
+#[tactic(auto, unfolding(crate::specs::Reader::first_digit, crate::specs::Number::digit))]
 fn first_digit(negative: bool, byte: u8) -> Reader
     ensures { result ≡ first_digit negative byte }
 {
-    if byte == b'0' {
-        Reader::Malformed
-    } else if is_digit(byte) {
-        let value = (byte - b'0') as u64;
+    match byte {
+        b'1'..=b'9' => Reader::Digits {
+            negative,
+            value: u64::from(byte - b'0'),
+        },
+        _ => Reader::Malformed,
+    }
+}
+
+#[tactic(auto, unfolding(crate::specs::Reader::pushed, crate::specs::Number::digit))]
+fn next_digit(negative: bool, value: u64, byte: u8) -> Reader
+    ensures { result ≡ pushed (Reader.Digits negative value) byte }
+{
+    if byte.is_ascii_digit() {
+        let value = extend(value, u64::from(byte - b'0'));
         Reader::Digits { negative, value }
     } else {
         Reader::Malformed
     }
 }
 
-fn next_digit(negative: bool, value: u64, byte: u8) -> Reader
-    ensures { result ≡ pushed (Reader.Digits negative value) byte }
-{
-    if is_digit(byte) {
-        let longer = extend(value, (byte - b'0') as u64);
-        Reader::Digits {
-            negative,
-            value: longer,
-        }
-    } else {
-        Reader::Malformed
-    }
-}
-
-fn natural_answer(low: u32, high: u32, value: u64) -> NaturalAnswer
+#[tactic(auto, unfolding(crate::specs::Number::in_natural_range))]
+fn natural_answer(low: u32, high: u32, value: u64) -> Result<u32, Fault>
     ensures { result ≡ in_natural_range low high value }
 {
-    if value < low as u64 {
-        NaturalAnswer::NoNatural(Fault::Range)
-    } else if value <= high as u64 {
-        NaturalAnswer::Natural(value as u32)
+    if (u64::from(low)..=u64::from(high)).contains(&value) {
+        Ok(value as u32)
     } else {
-        NaturalAnswer::NoNatural(Fault::Range)
+        Err(Fault::Range)
     }
 }
 
-fn negative_answer(value: u64) -> IntegerAnswer
-    ensures { result ≡ in_signed_range (neg_ℤ (pos value)) }
+#[tactic(auto, unfolding(crate::specs::Number::in_signed_range))]
+fn signed_answer(value: i128) -> Result<i32, Fault>
+    ensures { result ≡ in_signed_range value }
 {
-    if value <= 2147483648 {
-        IntegerAnswer::Integer((0 - (value as i64)) as i32)
-    } else {
-        IntegerAnswer::NoInteger(Fault::Range)
-    }
-}
-
-fn positive_answer(value: u64) -> IntegerAnswer
-    ensures { result ≡ in_signed_range (pos value) }
-{
-    if value <= 2147483647 {
-        IntegerAnswer::Integer(value as i32)
-    } else {
-        IntegerAnswer::NoInteger(Fault::Range)
-    }
+    i32::try_from(value).map_err(|_| Fault::Range)
 }
 
 impl Reader {
@@ -122,74 +104,66 @@ impl Reader {
     }
 
     // The reader after one byte more.
+    #[tactic(auto, unfolding(crate::specs::Reader::pushed))]
     pub fn push(self, byte: u8) -> Self
         ensures { result ≡ pushed self byte }
     {
         match self {
-            Reader::Empty => {
-                if byte == b'-' {
-                    Reader::Minus
-                } else if byte == b'0' {
-                    Reader::Zero
-                } else {
-                    first_digit(false, byte)
-                }
-            }
+            Reader::Empty => match byte {
+                b'-' => Reader::Minus,
+                b'0' => Reader::Zero,
+                _ => first_digit(false, byte),
+            },
             Reader::Minus => first_digit(true, byte),
-            Reader::Zero => Reader::Malformed,
             Reader::Digits { negative, value } => next_digit(negative, value, byte),
-            Reader::Malformed => Reader::Malformed,
+            Reader::Zero | Reader::Malformed => Reader::Malformed,
         }
     }
 
+    // The reader after all of some bytes.
+    pub fn over(bytes: &[u8]) -> Self
+        ensures { result ≡ after Reader.Empty bytes.now }
+    {
+        bytes
+            .iter()
+            .fold(Reader::new(), |reader, byte| reader.push(*byte))
+    }
+
     // The bytes as an unsigned number from `low` to `high`.
-    pub fn natural(self, low: u32, high: u32) -> NaturalAnswer
+    #[tactic(auto, unfolding(crate::specs::Reader::natural_in))]
+    pub fn natural(self, low: u32, high: u32) -> Result<u32, Fault>
         ensures { result ≡ natural_in low high self }
     {
         match self {
-            Reader::Empty => NaturalAnswer::NoNatural(Fault::Form),
-            Reader::Minus => NaturalAnswer::NoNatural(Fault::Form),
             Reader::Zero => natural_answer(low, high, 0),
-            Reader::Digits { negative, value } => {
-                if negative {
-                    NaturalAnswer::NoNatural(Fault::Form)
-                } else {
-                    natural_answer(low, high, value)
-                }
-            }
-            Reader::Malformed => NaturalAnswer::NoNatural(Fault::Form),
+            Reader::Digits {
+                negative: false,
+                value,
+            } => natural_answer(low, high, value),
+            _ => Err(Fault::Form),
         }
     }
 
     // The bytes as a signed number, of a reading or a constant.
-    pub fn integer(self) -> IntegerAnswer
+    #[tactic(auto, unfolding(crate::specs::Reader::integer_in))]
+    pub fn integer(self) -> Result<i32, Fault>
         ensures { result ≡ integer_in self }
     {
         match self {
-            Reader::Empty => IntegerAnswer::NoInteger(Fault::Form),
-            Reader::Minus => IntegerAnswer::NoInteger(Fault::Form),
-            Reader::Zero => positive_answer(0),
+            Reader::Zero => signed_answer(0),
             Reader::Digits { negative, value } => {
-                if negative {
-                    negative_answer(value)
-                } else {
-                    positive_answer(value)
-                }
+                let value = i128::from(value);
+                signed_answer(if negative { -value } else { value })
             }
-            Reader::Malformed => IntegerAnswer::NoInteger(Fault::Form),
+            Reader::Empty | Reader::Minus | Reader::Malformed => Err(Fault::Form),
         }
     }
 
     // The bytes are `-` alone.
+    #[tactic(auto, unfolding(crate::specs::Reader::dash_in))]
     pub fn is_dash(self) -> bool
         ensures { result ≡ dash_in self }
     {
-        match self {
-            Reader::Empty => false,
-            Reader::Minus => true,
-            Reader::Zero => false,
-            Reader::Digits { negative, value } => false,
-            Reader::Malformed => false,
-        }
+        matches!(self, Reader::Minus)
     }
 }

@@ -1,14 +1,19 @@
 -- Lines are put one after another: those of 1 to n, then those of n + 1.
-use mathlib.Core.Path.{◌≡◌, sym, ap}
+use mathlib.Core.Path.{◌≡◌, refl, sym, ap, ◌∙◌}
 use mathlib.Core.List.{List, [], ◌∷◌, ◌++◌, append_assoc}
-use Prim.Native.Nat.{ℕ, suc, ◌+◌, ◌-◌, ◌*◌}
+use Prim.Native.Nat.{ℕ, zero, suc, ◌+◌, ◌-◌, ◌*◌, ◌≤◌}
 use native.Mathlib.Omega.{arith}
 use native.Mathlib.Numerals.{add-one}
+use lib.ListN.{length, get_or, take, drop, length-drop}
+use lib.Seq.{length-take-le}
+use Rattle.std.proofs.lemmas.List.{get_or-take}
+use Rattle.std.proofs.Common.{get_or-drop}
 use Rattle.declare.specs.declared.Standing.{Standing}
 use Rattle.standings.specs.declared.Cell.{Cell}
 use Rattle.standings.specs.declared.totals.Totals.{Totals}
-use Rattle.standings.specs.Places.{standing_from, standing_in, with_zero}
+use Rattle.standings.specs.Places.{idle_cell, standing_from, standing_in, with_zero}
 use Rattle.standings.specs.Totals.{totals_by}
+use Rattle.standings.proofs.Counts.{totals_same}
 use Rattle.line.specs.Texts.{written_line, written_text}
 use Rattle.buffer.specs.Puts.{Puts}
 use Rattle.buffer.proofs.Puts.{puts_none, puts_as}
@@ -53,3 +58,42 @@ unfolding standing_in
 row_lines z cells n k a =
     let e : k * 256 ≡ (k + 1 - 1) * 256 = omega arith in
     puts_as (ap (λ (first : ℕ). written_text line_fields (rule_lines (k + 1) (with_zero z (standing_from cells first)) n)) e) a
+
+-- ---- a rule's events by the cells of its row alone
+
+lines_same : (f g : ℕ → List PrintedLine) (n : ℕ) → ((i : ℕ) → 1 ≤ i → i ≤ n → f i ≡ g i) → lines_up_to f n ≡ lines_up_to g n
+unfolding lines_up_to
+lines_same f g zero h = refl
+lines_same f g (suc n) h =
+    let last : f (suc n) ≡ g (suc n) = h (suc n) (omega arith) (omega arith) in
+    rw (lines_same f g n (λ i a b. h i a (omega arith)), last) refl
+
+module _ (k : ℕ) (z : Standing) (cells : List Cell) (first n : ℕ) (inside : first + n ≤ length cells) where
+  abbrev pub row : List Cell
+  row = take (first + n - first) (drop first cells)
+
+  row_length : length row ≡ n
+  row_length =
+      let e : first + n - first ≡ n = omega arith in
+      rw e (length-take-le n (drop first cells) (rw (length-drop first cells) (omega arith)))
+
+  row_same : (i : ℕ) → i ≤ n → with_zero z (standing_from row 0) i ≡ with_zero z (standing_from cells first) i
+  unfolding with_zero standing_from
+  row_same zero h = refl
+  row_same (suc i) h =
+      let e : first + n - first ≡ n = omega arith in
+      let at : 0 + (suc i - 1) ≡ i = omega arith in
+      let place : first + (suc i - 1) ≡ first + i = omega arith in
+      ap (λ (c : Cell). c.standing)
+      (ap (λ (j : ℕ). get_or row j idle_cell) at
+      ∙ ap (λ (m : ℕ). get_or (take m (drop first cells)) i idle_cell) e
+      ∙ get_or-take n (drop first cells) i idle_cell (omega arith)
+      ∙ get_or-drop first cells i idle_cell
+      ∙ ap (λ (j : ℕ). get_or cells j idle_cell) (sym place))
+
+  pub row_put : {l m : List ℕ} {at p : ℕ} → PutLines (event_lines k (with_zero z (standing_from row 0)) (length row) ++ (total_of k (totals_by (with_zero z (standing_from row 0)) (length row)) ∷ [])) l at m p → PutLines (event_lines k (with_zero z (standing_from cells first)) n ++ (total_of k (totals_by (with_zero z (standing_from cells first)) n) ∷ [])) l at m p
+  unfolding event_lines
+  row_put a =
+      let lines = lines_same _ _ n (λ i some few. ap (position_lines k i) (row_same i few)) in
+      let totals = totals_same _ _ n row_same in
+      puts_as (rw (row_length, lines, totals) refl) a

@@ -5,13 +5,12 @@ use mathlib.Core.List.{List}
 use Prim.Native.Nat.{ℕ, ◌≤◌, ◌<◌}
 use native.Mathlib.Omega.{arith}
 use lib.ListN.{length}
-use Rattle.declare.specs.declared.Refusal.{Refusal}
+use Rattle.std.specs.Prelude.{Ok, Err}
 use Rattle.declare.specs.Refusals.{number_of}
 use Rattle.run.specs.Records.{valid_run}
 use Rattle.line.specs.Texts.{written_line}
 use Rattle.line.proofs.Texts.{written_one}
-use Rattle.notebook.specs.declared.Text.{Text}
-use Rattle.notebook.specs.declared.Outcome.TheVariants.{Closed, Refused}
+use Rattle.notebook.specs.declared.TextRefusal.{TextRefusal}
 use Rattle.notebook.specs.declared.Notebook.{Notebook}
 use Rattle.notebook.specs.Notebook.{read_as, not_read, outcome_reply, notebook_reply, notebook_of}
 use Rattle.notebook.proofs.Read.{read_valid, refused_at}
@@ -21,7 +20,7 @@ use Rattle.printing.specs.Printing.{printed_bytes}
 use Rattle.printing.proofs.Room.{refused_within, report_within}
 
 module _ (rules cycle : List ℕ) (read : Notebook) (replies : notebook_reply read ≡ notebook_of rules cycle) where
-  module _ (closed : read.outcome ≡ Closed) where
+  module _ (closed : read.outcome ≡ Ok tt) where
     closed_reply : notebook_of rules cycle ≡ read_as read.run
     unfolding notebook_reply outcome_reply
     closed_reply = sym replies ∙ ap (outcome_reply read.run) closed
@@ -36,16 +35,16 @@ module _ (rules cycle : List ℕ) (read : Notebook) (replies : notebook_reply re
     pub closed_few : length (printed_of rules cycle) ≤ printed_bytes
     closed_few = rw (← closed_printed) (report_within read.run closed_valid).most
 
-  module _ (text : Text) (cause : Refusal) (line : ℕ) (refused : read.outcome ≡ Refused text cause line) where
-    pub refused_reply : notebook_of rules cycle ≡ not_read text (number_of cause) line
+  module _ (cause : TextRefusal) (refused : read.outcome ≡ Err cause) where
+    pub refused_reply : notebook_of rules cycle ≡ not_read cause.text (number_of cause.refusal) cause.line
     unfolding notebook_reply outcome_reply
     refused_reply = sym replies ∙ ap (outcome_reply read.run) refused
 
-    pub refused_printed : written_line line_fields (refused_line (word_of text) (number_of cause) line) ≡ printed_of rules cycle
+    pub refused_printed : written_line line_fields (refused_line (word_of cause.text) (number_of cause.refusal) cause.line) ≡ printed_of rules cycle
     unfolding printed_of printed_lines reply_lines
     refused_printed = rw refused_reply (sym (written_one line_fields _))
 
-    pub refused_few : number_of cause < 256 → length (printed_of rules cycle) ≤ printed_bytes
+    pub refused_few : number_of cause.refusal < 256 → length (printed_of rules cycle) ≤ printed_bytes
     refused_few h =
-        let l = refused_at rules cycle text (number_of cause) line refused_reply in
-        rw (← refused_printed) (omega (arith, (refused_within text (number_of cause) line (omega arith) (omega arith)).most))
+        let l = refused_at rules cycle cause.text (number_of cause.refusal) cause.line refused_reply in
+        rw (← refused_printed) (omega (arith, (refused_within cause.text (number_of cause.refusal) cause.line (omega arith) (omega arith)).most))

@@ -1,81 +1,76 @@
 // Answers of 16 bytes.
-use declare::{Refusal, Standing, has_line, number_of};
+use declare::{Refusal, Standing};
 use standings::totals::Totals;
 use std::io;
 
-pub fn low(x: u16) -> u8 {
-    (x % 256) as u8
+// A standing in four bytes: kind, 0, target.
+pub fn standing_bytes(s: Standing) -> [u8; 4] {
+    let (kind, target) = match s {
+        Standing::Idle => (0, 0),
+        Standing::Open => (1, 0),
+        Standing::Fulfilled(target) => (2, target),
+        Standing::Violated(target) => (3, target),
+    };
+    let [low, high] = target.to_le_bytes();
+    [kind, 0, low, high]
 }
 
-pub fn high(x: u16) -> u8 {
-    (x / 256) as u8
+// Totals in eight bytes: activations, fulfilled, violated, open.
+pub fn totals_bytes(t: Totals) -> [u8; 8] {
+    let [a, b] = t.activations.to_le_bytes();
+    let [c, d] = t.fulfilled.to_le_bytes();
+    let [e, f] = t.violated.to_le_bytes();
+    let [g, h] = t.open.to_le_bytes();
+    [a, b, c, d, e, f, g, h]
 }
 
 pub fn accepted(rt: &impl Print) -> io::Result<()> {
-    let answer = [0u8; 16];
-    rt.write_all(&answer)
+    rt.write_all(&[0u8; 16])
 }
 
-fn kept(keep: bool, b: u8) -> u8 {
-    if keep { b } else { 0 }
-}
-
-pub fn refused(rt: &impl Print, refusal: Refusal, line: u16, text: u8) -> io::Result<()> {
+pub fn refused(rt: &impl Print, refusal: Refusal, line: usize, text: u8) -> io::Result<()> {
     let mut answer = [0u8; 16];
-    let lined = has_line(refusal);
-    answer[0] = number_of(refusal);
-    answer[1] = kept(lined, 1);
-    answer[2] = kept(lined, low(line));
-    answer[3] = kept(lined, high(line));
+    answer[0] = refusal.number();
     answer[5] = text;
+    if refusal.has_line() {
+        let [low, high] = ((line % 65536) as u16).to_le_bytes();
+        answer[1] = 1;
+        answer[2] = low;
+        answer[3] = high;
+    }
     rt.write_all(&answer)
 }
 
-pub fn kind_of(s: Standing) -> u8 {
-    match s {
-        Standing::Idle => 0,
-        Standing::Open => 1,
-        Standing::Fulfilled(_) => 2,
-        Standing::Violated(_) => 3,
+// The answer of a call: the bytes of its value, or the refusal, which has no line.
+pub fn called<P: Print, T, F: FnOnce(T) -> [u8; 16]>(
+    rt: &P,
+    answer: Result<T, Refusal>,
+    bytes: F,
+) -> io::Result<()>
+    requires { F.IsAlwaysCallable bytes }
+{
+    match answer {
+        Ok(value) => rt.write_all(&bytes(value)),
+        Err(refusal) => refused(rt, refusal, 0, 0),
     }
 }
 
-pub fn target_of(s: Standing) -> u16 {
-    match s {
-        Standing::Idle => 0,
-        Standing::Open => 0,
-        Standing::Fulfilled(target) => target,
-        Standing::Violated(target) => target,
-    }
+pub fn done(_: ()) -> [u8; 16] {
+    [0; 16]
 }
 
-pub fn standing(rt: &impl Print, s: Standing) -> io::Result<()> {
-    let mut answer = [0u8; 16];
-    let target = target_of(s);
-    answer[4] = kind_of(s);
-    answer[6] = low(target);
-    answer[7] = high(target);
-    rt.write_all(&answer)
+pub fn standing(s: Standing) -> [u8; 16] {
+    let [kind, zero, low, high] = standing_bytes(s);
+    [0, 0, 0, 0, kind, zero, low, high, 0, 0, 0, 0, 0, 0, 0, 0]
 }
 
-// Of a text that was written, at most 65536 bytes.
-pub fn written(rt: &impl Print, length: usize) -> io::Result<()> {
-    let mut answer = [0u8; 16];
-    answer[8] = (length % 256) as u8;
-    answer[9] = (length / 256 % 256) as u8;
-    answer[10] = (length / 65536 % 256) as u8;
-    rt.write_all(&answer)
+pub fn totals(t: Totals) -> [u8; 16] {
+    let [a, b, c, d, e, f, g, h] = totals_bytes(t);
+    [0, 0, 0, 0, 0, 0, 0, 0, a, b, c, d, e, f, g, h]
 }
 
-pub fn totals(rt: &impl Print, t: Totals) -> io::Result<()> {
-    let mut answer = [0u8; 16];
-    answer[8] = low(t.activations);
-    answer[9] = high(t.activations);
-    answer[10] = low(t.fulfilled);
-    answer[11] = high(t.fulfilled);
-    answer[12] = low(t.violated);
-    answer[13] = high(t.violated);
-    answer[14] = low(t.open);
-    answer[15] = high(t.open);
-    rt.write_all(&answer)
+// The length of a text that was written.
+pub fn written(length: usize) -> [u8; 16] {
+    let [a, b, c, d, e, f, g, h] = length.to_le_bytes();
+    [0, 0, 0, 0, 0, 0, 0, 0, a, b, c, d, e, f, g, h]
 }

@@ -1,70 +1,39 @@
-// The library's calls.
-use crate::{answer, command};
+// The library's calls on the run.
+use crate::answer;
+use crate::command::Command;
 use declare::Table;
-use run::{Outcome, Run, StandingAnswer, Step, TotalsAnswer};
+use run::{Run, Step};
 use std::io;
 
-fn said(rt: &impl Print, outcome: Outcome) -> io::Result<()> {
-    match outcome {
-        Outcome::Done => answer::accepted(rt),
-        Outcome::Refused(refusal) => answer::refused(rt, refusal, 0, 0),
-    }
-}
-
-fn is_done(outcome: Outcome) -> bool {
-    match outcome {
-        Outcome::Done => true,
-        Outcome::Refused(_) => false,
-    }
-}
-
-pub fn start(rt: &impl Print, run: Run, table: Table) -> io::Result<Run> {
+// An accepted run becomes the run.
+pub fn start(rt: &impl Print, run: &mut Run, table: Table) -> io::Result<()> {
     let step = Run::start(table);
-    let outcome = step.outcome;
-    said(rt, outcome)?;
-    if is_done(outcome) {
-        return Ok(step.run);
+    if step.outcome.is_ok() {
+        *run = step.run;
     }
-    Ok(run)
+    answer::called(rt, step.outcome, answer::done)
 }
 
-fn stepped(rt: &impl Print, step: Step) -> io::Result<Run> {
-    let outcome = step.outcome;
-    said(rt, outcome)?;
-    Ok(step.run)
+fn stepped(rt: &impl Print, run: &mut Run, step: Step) -> io::Result<()> {
+    *run = step.run;
+    answer::called(rt, step.outcome, answer::done)
 }
 
-fn ask_standing(rt: &impl Print, run: Run, command: [u8; 32]) -> io::Result<()> {
-    let rule = command::index(command::low_half(command));
-    let position = command::index(command::high_half(command));
-    let a = run.standing(rule, position);
-    match a {
-        StandingAnswer::Is(s) => answer::standing(rt, s),
-        StandingAnswer::Refused(refusal) => answer::refused(rt, refusal, 0, 0),
-    }
-}
-
-fn ask_totals(rt: &impl Print, run: Run, command: [u8; 32]) -> io::Result<()> {
-    let a = run.totals(command::number(command));
-    match a {
-        TotalsAnswer::Are(t) => answer::totals(rt, t),
-        TotalsAnswer::Refused(refusal) => answer::refused(rt, refusal, 0, 0),
-    }
-}
-
-pub fn call(rt: &impl Print, run: Run, command: [u8; 32]) -> io::Result<Run> {
-    let letter = command[0];
-    match letter {
-        101 => stepped(rt, run.take(command::event(command))),
-        107 => stepped(rt, run.notice(command::number(command) as u64)),
-        120 => stepped(rt, run.close()),
-        103 => {
-            ask_standing(rt, run, command)?;
-            Ok(run)
-        },
-        _ => {
-            ask_totals(rt, run, command)?;
-            Ok(run)
-        },
+// The commands e, k, x, g and o.
+pub fn call(rt: &impl Print, run: &mut Run, command: Command) -> io::Result<()> {
+    let before = *run;
+    match command.letter() {
+        b'e' => stepped(rt, run, before.take(command.event())),
+        b'k' => stepped(rt, run, before.notice(command.number())),
+        b'x' => stepped(rt, run, before.close()),
+        b'g' => {
+            let position = command.high_half() as usize;
+            answer::called(
+                rt,
+                before.standing(command.place(), position),
+                answer::standing,
+            )
+        }
+        _ => answer::called(rt, before.totals(command.count()), answer::totals),
     }
 }

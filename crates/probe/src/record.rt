@@ -1,20 +1,13 @@
 // Single fields of the run.
-use crate::command;
+use crate::command::Command;
 use declare::slots::empty_table;
-use declare::{EVENTS, RULES, Standing, Table};
+use declare::{EVENTS, RULES, Standing};
 use run::Run;
 use standings::totals::Totals;
 use standings::{Cell, PLACES};
 
 pub fn empty() -> Run {
-    let step = Run::start(empty_table());
-    step.run
-}
-
-pub fn with_table(run: Run, table: Table) -> Run {
-    let mut next = run;
-    next.table = table;
-    next
+    Run::start(empty_table()).run
 }
 
 // The lower 16 bits.
@@ -22,6 +15,7 @@ fn short(x: u32) -> u16 {
     (x % 65536) as u16
 }
 
+// The kinds have the numbers of tests/PROBE.md.
 fn standing(kind: u8, target: u16) -> Standing {
     match kind {
         0 => Standing::Idle,
@@ -31,79 +25,47 @@ fn standing(kind: u8, target: u16) -> Standing {
     }
 }
 
-// Position 0 of the rule slot k.
-fn with_zero(run: Run, k: usize, cell: Cell) -> Run {
-    if RULES <= k {
-        return run;
-    }
-    let mut next = run;
-    next.overall[k] = cell;
-    next
-}
-
 // The cells of events, and after them those of position 0.
-fn with_cell(run: Run, command: [u8; 32]) -> Run {
-    let at = command::index(command::low_half(command));
+fn change_cell(run: &mut Run, command: Command) {
+    let at = command.place();
     let cell = Cell {
-        standing: standing(command[1], short(command::high_half(command))),
+        standing: standing(command.bytes[1], short(command.high_half())),
     };
-    if PLACES <= at {
-        return with_zero(run, at - PLACES, cell);
+    if at < PLACES {
+        run.cells[at] = cell;
+    } else if at - PLACES < RULES {
+        run.overall[at - PLACES] = cell;
     }
-    let mut next = run;
-    next.cells[at] = cell;
-    next
-}
-
-fn slot(b: u8) -> usize {
-    b as usize
 }
 
 // The stored totals of a rule slot.
-fn with_totals(run: Run, command: [u8; 32]) -> Run {
-    let at = slot(command[1]);
-    if RULES <= at {
-        return run;
+fn change_totals(run: &mut Run, command: Command) {
+    let at = usize::from(command.bytes[1]);
+    if at < RULES {
+        run.totals[at] = Totals {
+            activations: short(command.bits(16)),
+            fulfilled: short(command.bits(20)),
+            violated: short(command.bits(24)),
+            open: short(command.bits(28)),
+        };
     }
-    let mut next = run;
-    next.totals[at] = Totals {
-        activations: short(command::bits(command, 16)),
-        fulfilled: short(command::bits(command, 20)),
-        violated: short(command::bits(command, 24)),
-        open: short(command::bits(command, 28)),
-    };
-    next
 }
 
-fn with_event(run: Run, command: [u8; 32]) -> Run {
-    let at = command::index(command::low_half(command));
-    if EVENTS <= at {
-        return run;
+fn change_event(run: &mut Run, command: Command) {
+    let at = command.place();
+    if at < EVENTS {
+        run.events[at] = command.event();
     }
-    let event = command::event(command);
-    let mut next = run;
-    next.events[at] = event;
-    next
 }
 
-pub fn changed(run: Run, command: [u8; 32]) -> Run {
-    let letter = command[0];
-    let mut next = run;
-    match letter {
-        67 => {
-            next.count = command::number(command);
-            next
-        },
-        70 => {
-            next.closed = command[1] != 0;
-            next
-        },
-        75 => {
-            next.clock = command::low_half(command);
-            next
-        },
-        69 => with_event(run, command),
-        79 => with_totals(run, command),
-        _ => with_cell(run, command),
+// The commands C, F, K, E, O and S.
+pub fn change(run: &mut Run, command: Command) {
+    match command.letter() {
+        b'C' => run.count = command.count(),
+        b'F' => run.closed = command.bytes[1] != 0,
+        b'K' => run.clock = command.low_half(),
+        b'E' => change_event(run, command),
+        b'O' => change_totals(run, command),
+        _ => change_cell(run, command),
     }
 }

@@ -1,8 +1,9 @@
 // The table under construction.
-use crate::command;
+use crate::command::Command;
 use declare::slots::empty_table;
 use declare::{Comparison, Condition, End, Operator, RULES, Reference, Rule, Table, Window};
 
+// The numbers are those of tests/PROBE.md, here and below.
 fn operator(b: u8) -> Operator {
     match b {
         0 => Operator::Equal,
@@ -14,100 +15,68 @@ fn operator(b: u8) -> Operator {
     }
 }
 
-fn comparison(command: [u8; 32]) -> Comparison {
-    let k = command::first(command);
-    let reference = if command[6] == 0 {
-        Reference::Constant(k)
-    } else {
-        Reference::Activation(command[7], k)
-    };
+fn comparison(command: Command) -> Comparison {
+    let k = command.constant();
     Comparison {
-        reading: command[4],
-        operator: operator(command[5]),
-        reference: reference,
+        reading: command.bytes[4],
+        operator: operator(command.bytes[5]),
+        reference: if command.bytes[6] == 0 {
+            Reference::Constant(k)
+        } else {
+            Reference::Activation(command.bytes[7], k)
+        },
     }
 }
 
-fn with_comparison(c: Condition, place: u8, comparison: Comparison) -> Condition {
-    let mut next = c;
-    match place {
-        0 => {
-            next.first = comparison;
-        },
-        1 => {
-            next.second = comparison;
-        },
-        2 => {
-            next.third = comparison;
-        },
-        3 => {
-            next.fourth = comparison;
-        },
-        _ => {},
+// The commands n and c.
+fn change_condition(c: &mut Condition, command: Command) {
+    if command.letter() == b'n' {
+        c.count = command.bytes[3];
+        return;
     }
-    next
+    match command.bytes[3] {
+        0 => c.first = comparison(command),
+        1 => c.second = comparison(command),
+        2 => c.third = comparison(command),
+        3 => c.fourth = comparison(command),
+        _ => {}
+    }
 }
 
-fn changed_condition(c: Condition, command: [u8; 32]) -> Condition {
-    if command[0] == 110 {
-        let mut next = c;
-        next.count = command[3];
-        return next;
-    }
-    with_comparison(c, command[3], comparison(command))
-}
-
-fn end(command: [u8; 32]) -> End {
-    if command[5] == 0 {
-        End::Never
+fn end(command: Command) -> End {
+    if command.bytes[5] == 0 {
+        None
     } else {
-        End::At(command::high_half(command))
+        Some(command.high_half())
     }
 }
 
-fn changed_rule(rule: Rule, command: [u8; 32]) -> Rule {
-    let condition = rule.condition;
-    let correlation = rule.correlation;
-    if command[0] == 114 {
-        return Rule {
-            code: command[2],
-            activation: command[3],
-            target: command[4],
-            window: Window {
-                from: command::low_half(command),
-                until: end(command),
-            },
-            condition: condition,
-            correlation: correlation,
+// The commands r, n and c.
+fn change_rule(rule: &mut Rule, command: Command) {
+    if command.letter() == b'r' {
+        rule.code = command.bytes[2];
+        rule.activation = command.bytes[3];
+        rule.target = command.bytes[4];
+        rule.window = Window {
+            from: command.low_half(),
+            until: end(command),
         };
+    } else if command.bytes[2] == 0 {
+        change_condition(&mut rule.condition, command);
+    } else {
+        change_condition(&mut rule.correlation, command);
     }
-    let mut next = rule;
-    if command[2] == 0 {
-        let other = changed_condition(condition, command);
-        next.condition = other;
-        return next;
-    }
-    let other = changed_condition(correlation, command);
-    next.correlation = other;
-    next
 }
 
-fn slot(b: u8) -> usize {
-    b as usize
-}
-
-pub fn changed(table: Table, command: [u8; 32]) -> Table {
-    if command[0] == 116 {
-        let mut fresh = empty_table();
-        fresh.count = command::number(command);
-        return fresh;
+// The commands t, r, n and c.
+pub fn change(table: &mut Table, command: Command) {
+    if command.letter() == b't' {
+        *table = empty_table();
+        table.count = command.count();
+        return;
     }
-    let at = slot(command[1]);
-    if RULES <= at {
-        return table;
+    let at = usize::from(command.bytes[1]);
+    if at < RULES {
+        change_rule(&mut table.rules[at], command);
     }
-    let mut next = table;
-    let rule = changed_rule(next.rules[at], command);
-    next.rules[at] = rule;
-    next
 }

@@ -8,7 +8,6 @@ ghost use Rattle.line.specs.Texts.{is_all};
 ghost use Rattle.rule_text.specs.Rules.{rules_text_of};
 ghost use Rattle.printing.specs.Report.{printed_of};
 
-use buffer::WriteAnswer;
 use files::FILE_BYTES;
 use printing::{PRINTED_BYTES, print_texts};
 use std::rt::Files;
@@ -16,12 +15,7 @@ use std::rt::Files;
 fn are_accepted(rules: &[u8]) -> bool
     ensures { result ≡ is_all (rules_text_of rules.now) }
 {
-    let read = rule_text::read_rules(rules);
-    let outcome = read.outcome;
-    match outcome {
-        line::Outcome::Accepted => true,
-        line::Outcome::Refused(_, _) => false,
-    }
+    rule_text::read_rules(rules).is_ok()
 }
 
 // What is printed of the two texts, in front of the buffer. It is never too short, so nothing is
@@ -30,10 +24,7 @@ fn printed(rules: &[u8], cycle: &[u8], out: &mut [u8; PRINTED_BYTES]) -> usize
     ensures prefix_len { IsPrefixLen result out.new }
     ensures out_after { take result out.new ≡ printed_of rules.now cycle.now }
 {
-    match print_texts(rules, cycle, out) {
-        WriteAnswer::Written(length) => length,
-        WriteAnswer::Refused(_) => 0,
-    }
+    print_texts(rules, cycle, out).unwrap_or(0)
 }
 
 fn print(rt: &(impl Print + Eprint), rules: &[u8], cycle: &[u8]) {
@@ -47,12 +38,9 @@ fn read_cycle(rt: &(impl Files + Print + Eprint), rules: &[u8])
     requires { is_all (rules_text_of rules.now) ≡ true }
 {
     let mut cycle = [0u8; FILE_BYTES];
-    let read = files::read_text(rt, b"cycle.tsv", b"cycle", &mut cycle);
-    if !read.whole {
-        return;
+    if let Some(end) = files::read_text(rt, b"cycle.tsv", b"cycle", &mut cycle) {
+        print(rt, rules, &cycle[..end]);
     }
-    let end = read.length;
-    print(rt, rules, &cycle[..end]);
 }
 
 // What is printed of refused rules is the same for every cycle text.
@@ -64,11 +52,9 @@ fn print_refused(rt: &(impl Print + Eprint), rules: &[u8])
 
 fn main(rt: HostRuntime) {
     let mut text = [0u8; FILE_BYTES];
-    let read = files::read_text(&rt, b"rules.tsv", b"rules", &mut text);
-    if !read.whole {
+    let Some(end) = files::read_text(&rt, b"rules.tsv", b"rules", &mut text) else {
         return;
-    }
-    let end = read.length;
+    };
     let rules = &text[..end];
     if are_accepted(rules) {
         read_cycle(&rt, rules);

@@ -1,23 +1,29 @@
--- What read_rules promises of an accepted text: from its outcome to the text's rules, and back.
+-- What read_rules promises of a text: from its answer to what the text holds, and back.
 use mathlib.Core.Path.{◌≡◌, sym, ap, ◌∙◌}
 use mathlib.Core.List.{List}
 use Prim.Native.Nat.{ℕ}
+use Rattle.std.specs.Prelude.{Result, Ok, Err}
+use Rattle.std.proofs.lemmas.Result.{IfOk-at_ok}
+use Rattle.declare.specs.Refusals.{number_of}
 use Rattle.declare.specs.Rules.{rules_of}
 use Rattle.declare.specs.Slots.{table_of}
-use Rattle.line.specs.Texts.{Records, All, records_read}
-use Rattle.line.proofs.Texts.{outcome_accepted}
-use Rattle.rule_text.specs.Types.{Rule, Outcome, Accepted, RulesRead}
+use Rattle.line.specs.Texts.{All, Stop, records_read}
+use Rattle.line.proofs.Texts.{accepted_lem}
+use Rattle.rule_text.specs.Types.{Rule, Table, LineRefusal}
 use Rattle.rule_text.specs.Rules.{rules_text_of}
-use Rattle.rule_text.specs.Reads.{rules_in, ReadsRules}
+use Rattle.rule_text.specs.Reads.{ReadsRules}
 
-module _ (text : List ℕ) (read : RulesRead) (reads : ReadsRules text read) where
-  pub accepted_rules : read.outcome ≡ Accepted → rules_text_of text ≡ All (rules_of read.table)
+module _ (text : List ℕ) (r : Result Table LineRefusal) (reads : ReadsRules text r) where
+  pub accepted_rules : (t : Table) → r ≡ Ok t → rules_text_of text ≡ All (rules_of t)
   unfolding records_read
-  accepted_rules o = sym reads.records ∙ ap (λ (x : Outcome). records_read x (rules_of read.table)) o
+  accepted_rules t h = sym (rw h at reads.records)
 
-  pub rules_read : (rs : List Rule) → rules_text_of text ≡ All rs → (read.outcome ≡ Accepted) × (read.table ≡ table_of rs)
-  unfolding rules_in
-  rules_read rs e = (
-    outcome_accepted read.outcome (rules_of read.table) rs (reads.records ∙ e),
-    reads.table ∙ ap (λ (x : Records Rule). table_of (rules_in x)) e,
-  )
+  pub refused_text : (x : LineRefusal) → r ≡ Err x → rules_text_of text ≡ Stop (number_of x.refusal) x.line
+  unfolding records_read
+  refused_text x h = sym (rw h at reads.records)
+
+  pub rules_read : (rs : List Rule) → rules_text_of text ≡ All rs → r ≡ Ok (table_of rs)
+  rules_read rs e =
+      let a = accepted_lem rules_of r rs (reads.records ∙ e) in
+      let s : a.value ≡ table_of (rules_of a.value) = IfOk-at_ok (λ (t : Table). t ≡ table_of (rules_of t)) a.answer reads.slots in
+      a.answer ∙ ap Ok s ∙ rw a.records

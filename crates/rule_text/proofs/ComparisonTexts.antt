@@ -1,5 +1,6 @@
 -- A comparison that is written reads back as itself; one that was read is written as the same
 -- bytes, and is within its limits.
+use Rattle.std.specs.Prelude.{Some, Result, Ok, Err}
 use mathlib.Core.Path.{◌≡◌, refl, sym, ◌∙◌, ap}
 use mathlib.Core.Bool.{Bool, true, false, cond, ◌&&◌}
 use mathlib.Core.List.{List, [], ◌∷◌}
@@ -9,7 +10,6 @@ use borrow.Author.Tests.{eqb-true, ne_eqb, leb-true, le-leb}
 use lib.Dec.{leb, eqb}
 use lib.IntN.{ℤ, pos, negsuc}
 use lib.ListN.{get_or}
-use Rattle.declare.specs.declared.Operand.TheVariants.{Exact}
 use Rattle.declare.specs.Events.{in_range}
 use Rattle.declare.specs.Rules.{is_reading, valid_reference, valid_comparison}
 use Rattle.declare.proofs.Booleans.{and_left, and_right, both, both₃, and₂, and₃}
@@ -21,7 +21,7 @@ use Rattle.number.proofs.Written.{written_digits, read_integer, integer_read}
 use Rattle.declare.specs.Answers.{Answer, accepted, ◌>>=◌, ◌>>◌, require}
 use Rattle.declare.proofs.Answers.{no_of, of_of, through, required}
 use Rattle.line.proofs.Values.{in_range_lem, in_signed_range_lem}
-use Rattle.rule_text.specs.Types.{Operator, Equal, NotEqual, Less, AtMost, Greater, AtLeast, Reference, Constant, Activation, Comparison, IntegerAnswer, Integer, NoInteger}
+use Rattle.rule_text.specs.Types.{Operator, Equal, NotEqual, Less, AtMost, Greater, AtLeast, Reference, Constant, Activation, Comparison, Fault}
 use Rattle.rule_text.specs.Comparisons.{operator_byte, reading_digit, digit_of, operator_of, k_answer, k_field, constant_field, activation_field, reference_field, comparison_field}
 use Rattle.rule_text.specs.Written.{reference_text, comparison_text}
 
@@ -72,19 +72,19 @@ operator_read_lem b o h =
 
 -- ---- k
 
-k_written : (k : ℤ) → in_range (Exact k) ≡ true → k_field (integer_text k) ≡ accepted k
+k_written : (k : ℤ) → in_range (Some k) ≡ true → k_field (integer_text k) ≡ accepted k
 unfolding k_field k_answer
 k_written k h = rw (read_integer k, in_range_lem k h)
 
-k_read_lem : (field : List ℕ) (k : ℤ) → k_field field ≡ accepted k → (integer_text k ≡ field) × (in_range (Exact k) ≡ true)
+k_read_lem : (field : List ℕ) (k : ℤ) → k_field field ≡ accepted k → (integer_text k ≡ field) × (in_range (Some k) ≡ true)
 unfolding k_field k_answer
 k_read_lem field k h = go (integer_of field) refl
   where
-    go : (a : IntegerAnswer) → integer_of field ≡ a → (integer_text k ≡ field) × (in_range (Exact k) ≡ true)
-    go (Integer z) p =
-        let w = integer_read field k (p ∙ ap Integer (of_of (rw p at h))) in
+    go : (a : Result ℤ Fault) → integer_of field ≡ a → (integer_text k ≡ field) × (in_range (Some k) ≡ true)
+    go (Ok z) p =
+        let w = integer_read field k (p ∙ ap Ok (of_of (rw p at h))) in
         (w.text, in_signed_range_lem k w.range)
-    go (NoInteger f) p = absurd (no_of (rw p at h))
+    go (Err f) p = absurd (no_of (rw p at h))
 
 -- ---- references
 
@@ -103,7 +103,7 @@ reference_written : (correlation : Bool) (x : Reference) → valid_reference cor
 unfolding valid_reference reference_field reference_text constant_field activation_field ◌>>=◌ ◌>>◌ require
 reference_written correlation (Constant k) h = rw (k_first k, k_written k h)
 reference_written correlation (Activation g k) h =
-    let w = and₃ {a = correlation} {b = is_reading g} {c = in_range (Exact k)} h in
+    let w = and₃ {a = correlation} {b = is_reading g} {c = in_range (Some k)} h in
     rw (reading_digit_lem g w.1) (rw (w.0, digit_written g w.1, k_written k w.2))
 
 pub record ReferenceRead (correlation : Bool) (field : List ℕ) (x : Reference) : Type 0 where

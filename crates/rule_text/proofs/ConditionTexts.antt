@@ -1,6 +1,7 @@
 -- A condition that is written reads back with the same comparisons; one that was read is written as
 -- the same bytes, is within its limits, has no_comparison in the slots that are not in use, and is
 -- empty if and only if its field is `-`. By the laws of one comparison, comparison by comparison.
+use Rattle.std.specs.Prelude.{Some}
 use mathlib.Core.Path.{◌≡◌, refl, sym, ◌∙◌, ap}
 use mathlib.Core.Bool.{Bool, true, false, cond, and-false}
 use mathlib.Core.List.{List, [], ◌∷◌, ◌++◌, map, append-nil, append_assoc}
@@ -9,7 +10,6 @@ use native.Mathlib.Omega.{arith}
 use borrow.Author.Tests.{ne_eqb, le-leb, lt-ltb, ltb-true}
 use lib.Dec.{leb, ltb, eqb}
 use lib.ListN.{length, length-append}
-use Rattle.declare.specs.declared.Reading.TheVariants.{Value}
 use Rattle.declare.specs.Lists.{all}
 use Rattle.declare.specs.Conditions.{comparisons_of}
 use Rattle.declare.specs.Rules.{is_reading, no_condition, valid_reference, valid_comparison, valid_condition}
@@ -56,10 +56,10 @@ module _ (b : ℕ) (low : b < 45) (mark : eqb 33 b ≡ false) where
 
   k_lacks : (x : Reference) → lacks b (reference_text x) ≡ true
   unfolding reference_text reading_text
-  k_lacks (Constant k) = lacks_reading b (Value k) low
+  k_lacks (Constant k) = lacks_reading b (Some k) low
   k_lacks (Activation g k) =
       lacks_more b 64 (digits_of g ++ (58 ∷ integer_text k)) (other 64 (omega arith))
-      (lacks_append b (digits_of g) (58 ∷ integer_text k) (digits_lack g) (lacks_more b 58 (integer_text k) (other 58 (omega arith)) (lacks_reading b (Value k) low)))
+      (lacks_append b (digits_of g) (58 ∷ integer_text k) (digits_lack g) (lacks_more b 58 (integer_text k) (other 58 (omega arith)) (lacks_reading b (Some k) low)))
 
   comparison_lacks : (c : Comparison) → lacks b (comparison_text c) ≡ true
   unfolding comparison_text

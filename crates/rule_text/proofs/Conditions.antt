@@ -1,18 +1,19 @@
--- Conditions: a condition's slots are its list of comparisons; and comparisons one after the other,
--- by where they begin in the field.
-use mathlib.Core.Path.{◌≡◌, refl, ap}
-use mathlib.Core.Bool.{Bool, true, false, cond}
+-- Conditions: a condition's slots are its list of comparisons; and comparisons one after the other.
+use mathlib.Core.Path.{◌≡◌, refl, ◌∙◌}
+use mathlib.Core.Bool.{Bool}
 use mathlib.Core.List.{List, [], ◌∷◌, ◌++◌}
 use Prim.Native.Nat.{ℕ, ◌+◌, ◌≤◌, ◌<◌}
 use native.Mathlib.Omega.{arith}
-use borrow.Author.Tests.{lt-ltb, le-ltb, le-leb, lt-leb, ltb-true, ltb-false}
-use lib.Dec.{leb, ltb}
-use lib.ListN.{length, drop, length-take, length-drop}
-use lib.Seq.{drop-drop}
+use native.Mathlib.Numerals.{add-one}
+use borrow.Author.Tests.{lt-ltb, le-ltb}
+use lib.Dec.{eqb}
+use lib.ListN.{length, get_or, drop, length-take, drop_of_length-le}
+use lib.Seq.{drop-cons}
+use Rattle.std.specs.List.{slice_split, onto_first}
 use Rattle.declare.specs.Conditions.{comparisons_of}
-use Rattle.line.specs.Fields.{index_of, before, following, split}
-use Rattle.declare.specs.Answers.{accepted, refused, ◌>>=◌, ◌>>◌, require}
+use Rattle.line.specs.Fields.{onto, split}
 use Rattle.line.proofs.Fields.{parts}
+use Rattle.declare.specs.Answers.{accepted, refused, ◌>>=◌, ◌>>◌, require}
 use Rattle.rule_text.specs.Types.{Comparison, Condition}
 use Rattle.rule_text.specs.Comparisons.{comparison_field}
 use Rattle.rule_text.specs.Conditions.{comma, comparisons_after, condition_of}
@@ -35,33 +36,27 @@ comparisons_few c =
 
 -- ---- one comparison after the other
 
--- the fields of a condition from a place on; none past the end
-unfoldable pub fields_at : List ℕ → ℕ → List (List ℕ)
-fields_at field at = cond (leb at (length field)) (split comma (drop at field)) []
+onto_is : (x b : ℕ) (s : List ℕ) → onto_first x (split b s) ≡ onto x (split b s)
+unfolding onto
+onto_is x b s = rw (parts b s)
 
-pub fields_start : (field : List ℕ) → fields_at field 0 ≡ split comma field
-unfolding fields_at
-fields_start field = rw (le-leb 0 (length field) (omega arith))
+-- the parts of a slice are those of the field
+split_is : (b : ℕ) (s : List ℕ) → slice_split (λ x. eqb x b) s ≡ split b s
+unfolding split
+split_is b [] = refl
+split_is b (x ∷ s) = rw (split_is b s, onto_is x b s)
 
-pub fields_end : (field : List ℕ) (at : ℕ) → length field < at → fields_at field at ≡ []
-unfolding fields_at
-fields_end field at h = rw (lt-leb at (length field) h)
+-- the part in hand is the first of those left
+pub part_in_hand : (field : List ℕ) (n : ℕ) (part : List ℕ) → n < length (slice_split (λ x. eqb x comma) field) → part ≡ get_or (slice_split (λ x. eqb x comma) field) n part → drop n (split comma field) ≡ part ∷ drop (n + 1) (split comma field)
+part_in_hand field n part l e =
+    let h : n < length (split comma field) = rw (split_is comma field) at l in
+    let p : part ≡ get_or (split comma field) n part = rw (split_is comma field) at e in
+    drop-cons (split comma field) n part h ∙ rw (← p, add-one)
 
-pub fields_next : (field : List ℕ) (at : ℕ) → at ≤ length field → fields_at field at ≡ before comma (drop at field) ∷ fields_at field (at + index_of comma (drop at field) + 1)
-unfolding fields_at following
-fields_next field at h = rw (le-leb at (length field) h, parts comma (drop at field)) (ap (λ (k : List (List ℕ)). before comma (drop at field) ∷ k) (go (ltb i (length (drop at field))) refl))
-  where
-    i : ℕ
-    i = index_of comma (drop at field)
-
-    go : (t : Bool) → ltb i (length (drop at field)) ≡ t → cond (ltb i (length (drop at field))) (split comma (following comma (drop at field))) [] ≡ fields_at field (at + i + 1)
-    go true p =
-        let l : at + i + 1 ≤ length field = omega (arith, ltb-true i (length (drop at field)) p, length-drop at field) in
-        let e : at + (i + 1) ≡ at + i + 1 = omega arith in
-        rw (p, le-leb (at + i + 1) (length field) l, drop-drop (i + 1) at field, e)
-    go false p =
-        let l : length field < at + i + 1 = omega (arith, ltb-false i (length (drop at field)) p, length-drop at field) in
-        rw (p, lt-leb (at + i + 1) (length field) l)
+pub no_parts : (field : List ℕ) (n : ℕ) → n ≡ length (slice_split (λ x. eqb x comma) field) → drop n (split comma field) ≡ []
+no_parts field n e =
+    let p : n ≡ length (split comma field) = rw (split_is comma field) at e in
+    drop_of_length-le (split comma field) (omega arith)
 
 module _ (correlation : Bool) (above : List Comparison) (field : List ℕ) (more : List (List ℕ)) where
   pub after_refused : (n : ℕ) → comparison_field correlation field ≡ refused n → comparisons_after correlation above (field ∷ more) ≡ refused n

@@ -1,5 +1,6 @@
 -- A written rules text is bytes, at most 155 a line: each field of a valid rule by its range or by
 -- its comparisons, then a line and a text by the laws of texts.
+use Rattle.std.specs.Prelude.{None, Some}
 use mathlib.Core.Path.{◌≡◌, refl}
 use mathlib.Core.Bool.{Bool, true, false, false≢true}
 use mathlib.Core.List.{List, [], ◌∷◌, map}
@@ -8,8 +9,6 @@ use native.Mathlib.Omega.{arith}
 use borrow.Author.Tests.{leb-true}
 use lib.Dec.{leb, ltb}
 use lib.ListN.{length, replicate}
-use Rattle.declare.specs.declared.Reading.TheVariants.{Value}
-use Rattle.declare.specs.declared.Operand.TheVariants.{Exact}
 use Rattle.declare.specs.Lists.{all}
 use Rattle.declare.specs.Conditions.{comparisons_of}
 use Rattle.declare.specs.Events.{latest, in_range}
@@ -20,7 +19,7 @@ use Rattle.declare.proofs.Satisfiability.{one_of_four}
 use Rattle.line.specs.Fields.{is_byte}
 use Rattle.line.specs.Values.{reading_text}
 use Rattle.line.proofs.Lengths.{Within, within_none, within_more, within_most, Each, no_more, ◌and◌, number_within, reading_within, joined_most, joined_within, text_within}
-use Rattle.rule_text.specs.Types.{Operator, Equal, NotEqual, Less, AtMost, Greater, AtLeast, Reference, Constant, Activation, Comparison, Condition, End, Never, At, Rule}
+use Rattle.rule_text.specs.Types.{Operator, Equal, NotEqual, Less, AtMost, Greater, AtLeast, Reference, Constant, Activation, Comparison, Condition, End, Rule}
 use Rattle.rule_text.specs.Comparisons.{operator_byte}
 use Rattle.rule_text.specs.Conditions.{comma}
 use Rattle.rule_text.specs.Written.{reference_text, comparison_text, comparisons_text, condition_text, end_text, rule_fields, rules_text, ValidRules, WrittenBytes}
@@ -50,13 +49,13 @@ reference_most true = 14
 
 reference_within : (correlation : Bool) (x : Reference) → valid_reference correlation x ≡ true → Within (reference_most correlation) (reference_text x)
 unfolding valid_reference reference_text reading_text is_byte
-reference_within false (Constant k) h = reading_within (Value k) h
-reference_within true (Constant k) h = within_most (omega arith) (reading_within (Value k) h)
+reference_within false (Constant k) h = reading_within (Some k) h
+reference_within true (Constant k) h = within_most (omega arith) (reading_within (Some k) h)
 reference_within false (Activation g k) h = absurd (false≢true h)
 reference_within true (Activation g k) h =
-    let p : (is_reading g ≡ true) × (in_range (Exact k) ≡ true) = and₂ h in
+    let p : (is_reading g ≡ true) × (in_range (Some k) ≡ true) = and₂ h in
     rw (reading_digit_lem g p.0)
-    (within_more 64 refl (within_more (48 + g) (digit_byte g p.0) (within_more 58 refl (reading_within (Value k) p.1))))
+    (within_more 64 refl (within_more (48 + g) (digit_byte g p.0) (within_more 58 refl (reading_within (Some k) p.1))))
 
 -- a digit and an operator before it
 abbrev comparison_most : Bool → ℕ
@@ -98,8 +97,8 @@ condition_within correlation c h =
 
 end_within : (a : ℕ) (e : End) → valid_end a e ≡ true → Within 10 (end_text e)
 unfolding valid_end end_text is_byte
-end_within a Never h = within_more 45 refl (within_none 9)
-end_within a (At b) h =
+end_within a None h = within_more 45 refl (within_none 9)
+end_within a (Some b) h =
     let p : (ltb a b ≡ true) × (leb b latest ≡ true) = and₂ h in
     number_within 9 b (omega (arith, leb-true b latest p.1))
 

@@ -1,6 +1,7 @@
 -- What an accepted rules text gives, and that writing and reading undo each other: first for one
 -- line, then for a text by the laws of texts.
 -- A rule and its canonical form are written alike, and the canonical form is what is read back.
+use Rattle.std.specs.Prelude.{None, Some}
 use mathlib.Core.Path.{◌≡◌, refl, sym, ◌∙◌, ap}
 use mathlib.Core.Bool.{Bool, true, false, cond, ◌&&◌}
 use mathlib.Core.List.{List, [], ◌∷◌, ◌++◌, map}
@@ -10,7 +11,6 @@ use borrow.Author.Tests.{leb-true, le-leb, ltb-true, lt-ltb, eqb-true, ne_eqb}
 use lib.Dec.{leb, ltb}
 use lib.IntN.{pos}
 use lib.ListN.{length, get_or, length-append, length-take}
-use Rattle.declare.specs.declared.Reading.TheVariants.{Blank}
 use Rattle.declare.specs.Lists.{all}
 use Rattle.declare.specs.Limits.{last_activity, last_template, most_rules}
 use Rattle.declare.specs.Events.{latest, is_activity}
@@ -30,7 +30,7 @@ use Rattle.line.proofs.Values.{dash_text, number_written, number_read, lacks_num
 use Rattle.line.proofs.Lines.{all_numbered}
 use Rattle.line.proofs.Joined.{lacks}
 use Rattle.line.proofs.Texts.{Parted, Follow, text_written, text_back, accepted_records, refused_line_lem}
-use Rattle.rule_text.specs.Types.{End, Never, At, Rule, Table}
+use Rattle.rule_text.specs.Types.{End, Rule, Table}
 use Rattle.rule_text.specs.Conditions.{comma, condition_field}
 use Rattle.rule_text.specs.Rules.{end_field, is_above, checked_rule, rule_field_count, rule_of, in_table, rule_after, rules_text_of}
 use Rattle.rule_text.specs.Written.{condition_text, end_text, rule_fields, rules_text, canonical, ValidRules, RoundTrips}
@@ -45,8 +45,8 @@ digits_not_dash n = integer_not_dash (pos n)
 
 end_written : (a : ℕ) (e : End) → valid_end a e ≡ true → end_field (end_text e) ≡ accepted e
 unfolding valid_end end_field end_text ◌>>=◌ dash none
-end_written a Never v = refl
-end_written a (At b) v =
+end_written a None v = refl
+end_written a (Some b) v =
     let p : (ltb a b ≡ true) × (leb b latest ≡ true) = and₂ v in
     let low = ltb-true a b p.0 in
     rw (digits_not_dash b, number_written 1 latest b (omega arith) (leb-true b latest p.1))
@@ -55,11 +55,11 @@ record EndRead (field : List ℕ) (e : End) : Type 0 where
   text : end_text e ≡ field
   valid : (a : ℕ) → is_above e a ≡ true → valid_end a e ≡ true
 
-never_read : (field : List ℕ) → dash field ≡ true → EndRead field Never
+never_read : (field : List ℕ) → dash field ≡ true → EndRead field None
 unfolding end_text valid_end
 never_read field p = record { text = dash_text field p; valid = λ a h. refl }
 
-at_read : (field : List ℕ) (b : ℕ) → number_field 1 latest field ≡ accepted b → EndRead field (At b)
+at_read : (field : List ℕ) (b : ℕ) → number_field 1 latest field ≡ accepted b → EndRead field (Some b)
 unfolding end_text valid_end is_above
 at_read field b h =
     let w = number_read 1 latest field b h in
@@ -69,16 +69,16 @@ end_read_lem : (field : List ℕ) (e : End) → end_field field ≡ accepted e �
 unfolding end_field
 end_read_lem field e h = go (dash field) refl h
   where
-    go : (t : Bool) → dash field ≡ t → cond t (accepted Never) (number_field 1 latest field >>= λ b. accepted (At b)) ≡ accepted e → EndRead field e
+    go : (t : Bool) → dash field ≡ t → cond t (accepted None) (number_field 1 latest field >>= λ b. accepted (Some b)) ≡ accepted e → EndRead field e
     go true p q = rw (← of_of q) (never_read field p)
     go false p q =
-        let w = through (number_field 1 latest field) (λ b. accepted (At b)) e q in
+        let w = through (number_field 1 latest field) (λ b. accepted (Some b)) e q in
         rw (← of_of w.rest) (at_read field w.value w.first)
 
 end_lacks : (b : ℕ) → b < 45 → (e : End) → lacks b (end_text e) ≡ true
 unfolding end_text reading_text
-end_lacks b h Never = lacks_reading b Blank h
-end_lacks b h (At n) = lacks_number b n h
+end_lacks b h None = lacks_reading b None h
+end_lacks b h (Some n) = lacks_number b n h
 
 -- ---- a line that was read
 
@@ -237,8 +237,8 @@ limits r h =
 
 valid_above : (a : ℕ) (e : End) → valid_end a e ≡ true → is_above e a ≡ true
 unfolding valid_end is_above
-valid_above a Never v = refl
-valid_above a (At b) v = (and₂ v).0
+valid_above a None v = refl
+valid_above a (Some b) v = (and₂ v).0
 
 -- it passes the checks of a rule that was read
 checked_written : (r : Rule) → Limits r → checked_rule (canonical r) ≡ accepted (canonical r)

@@ -1,20 +1,15 @@
--- The reader's turns: the check of a rule below those above it, and the answers that the reader
--- returns.
-use mathlib.Core.Path.{◌≡◌, sym, ap}
-use mathlib.Core.List.{List, []}
-use Prim.Native.Nat.{ℕ, ◌≤◌, ◌<◌}
-use borrow.Author.Tests.{lt-ltb, le-ltb}
-use lib.ListN.{length, take}
+-- The reader's turns: the check of a rule below those above it.
+use mathlib.Core.Path.{◌≡◌, ap, ◌∙◌}
+use mathlib.Core.List.{List}
+use Prim.Native.Nat.{◌≤◌, ◌<◌}
+use borrow.Author.Tests.{lt-ltb, le-ltb, ltb-true}
+use lib.ListN.{length}
 use Rattle.declare.specs.Limits.{most_rules}
-use Rattle.declare.specs.Refusals.{number_of}
-use Rattle.declare.specs.Rules.{no_rule, rules_of}
-use Rattle.declare.specs.Answers.{accepted, refused, ◌>>◌, require}
-use Rattle.declare.specs.Slots.{table_of}
-use Rattle.declare.proofs.Filled.{Filled, filled_count}
-use Rattle.line.specs.Texts.{All, Stop, records_read}
-use Rattle.rule_text.specs.Types.{Rule, Refusal, Accepted, Refused, RulesRead}
-use Rattle.rule_text.specs.Rules.{in_table, rules_text_of}
-use Rattle.rule_text.specs.Reads.{rules_in, ReadsRules}
+use Rattle.declare.specs.Answers.{Answer, accepted, refused, ◌>>◌, require}
+use Rattle.declare.proofs.Answers.{of_of, through, required}
+use Rattle.rule_text.specs.Types.{Rule}
+use Rattle.rule_text.specs.Rules.{in_table}
+use Rattle.rule_text.specs.Reads.{below}
 
 module _ (above : List Rule) (r : Rule) where
   pub full : most_rules ≤ length above → in_table above r ≡ refused 8
@@ -25,16 +20,14 @@ module _ (above : List Rule) (r : Rule) where
   unfolding ◌>>◌ require in_table
   in_table_lem m = rw (lt-ltb (length above) most_rules m)
 
--- ---- what is returned
+-- a rule that was passed: its line gave it, and there is room for it
+pub record Passed (above : List Rule) (answer : Answer Rule) (r : Rule) : Type 0 where
+  pub line : answer ≡ accepted r
+  pub room : length above < most_rules
 
-pub answer_refused : (text : List ℕ) (r : RulesRead) (cause : Refusal) (line : ℕ) → r.outcome ≡ Refused cause line → r.table ≡ table_of [] → rules_text_of text ≡ Stop (number_of cause) line → ReadsRules text r
-unfolding records_read rules_in
-answer_refused text r cause line p t q = record { records = rw (p, q); table = rw q t }
-
-pub answer_accepted : (text : List ℕ) (count : ℕ) (rules : List Rule) → Filled most_rules no_rule count rules → rules_text_of text ≡ All (take count rules) → ReadsRules text (record { outcome = Accepted; table = record { count = count; rules = rules } })
-unfolding records_read rules_in rules_of table_of
-answer_accepted text count rules h q =
-    record {
-      records = sym q;
-      table = rw (q, filled_count most_rules no_rule count rules h) (ap (λ (s : List Rule). record { count = count; rules = s }) h.same);
-    }
+pub passed_lem : (above : List Rule) (answer : Answer Rule) (r : Rule) → below above answer ≡ accepted r → Passed above answer r
+unfolding below in_table
+passed_lem above answer r h =
+    let t = through _ _ r h in
+    let l = required _ 8 _ r t.rest in
+    record { line = t.first ∙ ap accepted (of_of l.1); room = ltb-true (length above) most_rules l.0 }

@@ -1,5 +1,6 @@
 -- Comparisons, conditions and whole rules texts, by computation over the definitions: what is
 -- accepted, each refusal, and the order of the checks.
+use Rattle.std.specs.Prelude.{None, Some}
 use mathlib.Core.Path.{◌≡◌, refl}
 use mathlib.Core.Bool.{true, false}
 use mathlib.Core.List.{List, [], ◌∷◌, ◌++◌}
@@ -15,9 +16,9 @@ use Rattle.number.specs.Written.{digits_in, digits_of, integer_text}
 use Rattle.number.proofs.Quoted.{bytes, repeated, Case, ◌gives◌, Checked}
 use Rattle.line.specs.Fields.{onto, split, each_after, joined}
 use Rattle.declare.specs.Answers.{Answer, accepted, refused, ◌>>=◌, ◌>>◌, require}
-use Rattle.line.specs.Values.{fault_number, natural_answer, number_field}
+use Rattle.line.specs.Values.{number_field}
 use Rattle.line.specs.Texts.{Records, All, Stop, line_after, continued, lines_of, text_of, written_line, written_text}
-use Rattle.rule_text.specs.Types.{Operator, Equal, NotEqual, Less, AtMost, Greater, AtLeast, Reference, Constant, Activation, Comparison, Condition, End, Never, At, Rule}
+use Rattle.rule_text.specs.Types.{Operator, Equal, NotEqual, Less, AtMost, Greater, AtLeast, Reference, Constant, Activation, Comparison, Condition, End, Rule}
 use Rattle.rule_text.specs.Comparisons.{reading_digit, digit_of, operator_of, k_number, k_answer, k_field, constant_field, activation_field, reference_field, comparison_field}
 use Rattle.rule_text.specs.Conditions.{comparisons_after, condition_of, comparisons_field, condition_field}
 use Rattle.rule_text.specs.Rules.{end_field, is_above, checked_rule, rule_of, in_table, rule_after, rules_text_of}
@@ -139,7 +140,7 @@ rule code activation target a b correlation =
 -- document 01's listing
 abbrev listing : List Rule
 listing =
-    rule 2 1 2 0 (At 500) (condition_of []) ∷ rule 6 3 2 0 Never (condition_of (compares 1 Equal (Activation 1 (pos 0)) ∷ [])) ∷ []
+    rule 2 1 2 0 (Some 500) (condition_of []) ∷ rule 6 3 2 0 None (condition_of (compares 1 Equal (Activation 1 (pos 0)) ∷ [])) ∷ []
 
 abbrev listing_text : List ℕ
 listing_text = bytes "2\t1\t2\t0\t500\t-\t-\n6\t3\t2\t0\t-\t-\t1=@1:0\n"
@@ -160,7 +161,7 @@ longest =
       code = 12;
       activation = 64;
       target = 64;
-      window = record { from = 4294967294; until = At 4294967295 };
+      window = record { from = 4294967294; until = Some 4294967295 };
       condition = each (Constant lowest);
       correlation = each (Activation 1 lowest);
     }
@@ -168,14 +169,14 @@ longest =
 abbrev accepted_texts : List (Case (Records Rule))
 accepted_texts =
     "" gives All []
-    ∷ "1\t1\t1\t0\t1\t-\t-\n" gives All (rule 1 1 1 0 (At 1) (condition_of []) ∷ [])
-    ∷ "12\t64\t64\t4294967294\t4294967295\t-\t-\n" gives All (rule 12 64 64 4294967294 (At 4294967295) (condition_of []) ∷ [])
-    ∷ "7\t3\t3\t4294967295\t-\t-\t-\n" gives All (rule 7 3 3 4294967295 Never (condition_of []) ∷ [])
+    ∷ "1\t1\t1\t0\t1\t-\t-\n" gives All (rule 1 1 1 0 (Some 1) (condition_of []) ∷ [])
+    ∷ "12\t64\t64\t4294967294\t4294967295\t-\t-\n" gives All (rule 12 64 64 4294967294 (Some 4294967295) (condition_of []) ∷ [])
+    ∷ "7\t3\t3\t4294967295\t-\t-\t-\n" gives All (rule 7 3 3 4294967295 None (condition_of []) ∷ [])
     ∷ longest_text gives All (longest ∷ [])
     -- rules about the cycle; under 13 and 14 the activities may be equal
-    ∷ "13\t1\t1\t0\t-\t-\t-\n" gives All (rule 13 1 1 0 Never (condition_of []) ∷ [])
-    ∷ "14\t64\t2\t10\t20\t-\t-\n" gives All (rule 14 64 2 10 (At 20) (condition_of []) ∷ [])
-    ∷ "15\t1\t2\t0\t-\t-\t-\n16\t2\t1\t0\t-\t-\t-\n" gives All (rule 15 1 2 0 Never (condition_of []) ∷ rule 16 2 1 0 Never (condition_of []) ∷ [])
+    ∷ "13\t1\t1\t0\t-\t-\t-\n" gives All (rule 13 1 1 0 None (condition_of []) ∷ [])
+    ∷ "14\t64\t2\t10\t20\t-\t-\n" gives All (rule 14 64 2 10 (Some 20) (condition_of []) ∷ [])
+    ∷ "15\t1\t2\t0\t-\t-\t-\n16\t2\t1\t0\t-\t-\t-\n" gives All (rule 15 1 2 0 None (condition_of []) ∷ rule 16 2 1 0 None (condition_of []) ∷ [])
     ∷ []
 
 -- each cause, with its line
@@ -289,7 +290,7 @@ full =
     ∷ "1\t1\t1\t5\t5\t-\t-\n" gives Stop 6 17
     ∷ "15\t1\t1\t0\t-\t-\t-\n" gives Stop 16 17
     ∷ "1\t1\t1\t0\t-\t-\t-" gives Stop 12 17
-    ∷ "" gives All (replicate 16 (rule 1 1 1 0 Never (condition_of [])))
+    ∷ "" gives All (replicate 16 (rule 1 1 1 0 None (condition_of [])))
     ∷ []
 
 pub record Vectors : Type 0 where
@@ -307,7 +308,7 @@ pub record Vectors : Type 0 where
   pub of_slots : padded most_rules no_rule listing ≡ listing ++ replicate 14 no_rule
 
 pub vectors : Vectors
-unfolding comparisons_of no_comparison no_condition no_rule digit digits none zero_alone positive negative natural_form integer_form dash value_from value_of integer_value in_natural_range natural_of in_signed_range integer_of digits_in digits_of integer_text onto split each_after joined ◌>>=◌ ◌>>◌ require fault_number natural_answer number_field line_after continued lines_of text_of written_line written_text reading_digit digit_of operator_of k_number k_answer k_field constant_field activation_field reference_field comparison_field comparisons_after condition_of comparisons_field condition_field is_overall overall_of fits_template end_field is_above checked_rule rule_of in_table rule_after rules_text_of reference_text comparison_text comparisons_text condition_text end_text rule_fields rules_text padded
+unfolding comparisons_of no_comparison no_condition no_rule digit digits none zero_alone positive negative natural_form integer_form dash value_from value_of integer_value in_natural_range natural_of in_signed_range integer_of digits_in digits_of integer_text onto split each_after joined ◌>>=◌ ◌>>◌ require number_field line_after continued lines_of text_of written_line written_text reading_digit digit_of operator_of k_number k_answer k_field constant_field activation_field reference_field comparison_field comparisons_after condition_of comparisons_field condition_field is_overall overall_of fits_template end_field is_above checked_rule rule_of in_table rule_after rules_text_of reference_text comparison_text comparisons_text condition_text end_text rule_fields rules_text padded
 vectors =
     record {
       of_constants = refl;

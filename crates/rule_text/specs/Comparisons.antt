@@ -2,10 +2,10 @@
 -- the order of the six above), then k, or `@`, a digit `1` to `4` for the activation's reading,
 -- `:`, k". "Comparison not of its form, `@` in an activation condition included" is 4. Past the end
 -- of a list of bytes stands 0, which is none of these bytes.
-use Rattle.std.specs.Prelude.{Bool, cond, ◌&&◌, List, ℕ, ◌-◌, leb, eqb, ℤ, get_or, drop}
+use Rattle.std.specs.Prelude.{Bool, cond, ◌&&◌, List, ℕ, ◌-◌, leb, eqb, ℤ, get_or, drop, Result, Ok, Err}
 use Rattle.number.specs.Number.{digit0, integer_of}
 use Rattle.declare.specs.Answers.{Answer, accepted, refused, ◌>>=◌, ◌>>◌, require}
-use Rattle.rule_text.specs.Types.{Operator, Equal, NotEqual, Less, AtMost, Greater, AtLeast, Reference, Constant, Activation, Comparison, Fault, Form, Range, IntegerAnswer, Integer, NoInteger}
+use Rattle.rule_text.specs.Types.{Operator, Equal, NotEqual, Less, AtMost, Greater, AtLeast, Reference, Constant, Activation, Comparison, Fault, Form, Range}
 
 -- `1` to `4` are the bytes 49 to 52
 abbrev pub digit1 : ℕ
@@ -53,9 +53,9 @@ unfoldable pub k_number : Fault → ℕ
 k_number Form = 4
 k_number Range = 3
 
-unfoldable pub k_answer : IntegerAnswer → Answer ℤ
-k_answer (Integer k) = accepted k
-k_answer (NoInteger fault) = refused (k_number fault)
+unfoldable pub k_answer : Result ℤ Fault → Answer ℤ
+k_answer (Ok k) = accepted k
+k_answer (Err fault) = refused (k_number fault)
 
 unfoldable pub k_field : List ℕ → Answer ℤ
 k_field field = k_answer (integer_of field)

@@ -1,7 +1,7 @@
 -- What a rules text holds, by document 01: its lines, their fields, and the order of the checks.
 -- "In a line: 12, 1, then field by field 2 or 4, 3, 5 (in a condition comparison by comparison),
 -- then 6 .., then 8"; 16 "follows 6" (document 02). The line's 12 is in `text_of`.
-use Rattle.std.specs.Prelude.{Bool, true, false, cond, List, [], ℕ, eqb, ltb, length, get_or}
+use Rattle.std.specs.Prelude.{Bool, true, false, cond, List, [], ℕ, eqb, ltb, length, get_or, None, Some}
 use Rattle.declare.specs.Limits.{last_activity, last_template, most_rules}
 use Rattle.declare.specs.Events.{latest}
 use Rattle.declare.specs.Rules.{fits_template}
@@ -9,21 +9,21 @@ use Rattle.number.specs.Number.{dash}
 use Rattle.declare.specs.Answers.{Answer, accepted, ◌>>=◌, ◌>>◌, require}
 use Rattle.line.specs.Values.{number_field}
 use Rattle.line.specs.Texts.{Records, text_of}
-use Rattle.rule_text.specs.Types.{End, Never, At, Rule}
+use Rattle.rule_text.specs.Types.{End, Rule}
 use Rattle.rule_text.specs.Conditions.{condition_field}
 
 -- "b (1 to 4294967295, or no end)"; "`-` alone means .. no end"
 unfoldable pub end_field : List ℕ → Answer End
 end_field field =
-    cond (dash field) (accepted Never)
+    cond (dash field) (accepted None)
     (do
       b ← number_field 1 latest field
-      accepted (At b))
+      accepted (Some b))
 
 -- "a < b"
 unfoldable pub is_above : End → ℕ → Bool
-is_above Never a = true
-is_above (At b) a = ltb a b
+is_above None a = true
+is_above (Some b) a = ltb a b
 
 -- 6 is "b not above a", 16 "equal activities under 15 or 16, or a correlation under 13 to 16"
 unfoldable pub checked_rule : Rule → Answer Rule

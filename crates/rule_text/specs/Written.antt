@@ -1,5 +1,5 @@
 -- Rules written as a rules text, and what is proved of writing and reading.
-use Rattle.std.specs.Prelude.{◌≡◌, true, List, [], ◌∷◌, ◌++◌, map, ℕ, ◌*◌, ◌≤◌, length}
+use Rattle.std.specs.Prelude.{◌≡◌, true, List, [], ◌∷◌, ◌++◌, map, ℕ, ◌*◌, ◌≤◌, length, None, Some}
 use Rattle.declare.specs.Lists.{all}
 use Rattle.declare.specs.Limits.{most_rules}
 use Rattle.declare.specs.Conditions.{comparisons_of}
@@ -9,7 +9,7 @@ use Rattle.number.specs.Number.{hyphen}
 use Rattle.number.specs.Written.{digits_of, integer_text}
 use Rattle.line.specs.Fields.{is_byte, joined}
 use Rattle.line.specs.Texts.{All, written_text}
-use Rattle.rule_text.specs.Types.{Reference, Constant, Activation, Comparison, Condition, End, Never, At, Rule, Table}
+use Rattle.rule_text.specs.Types.{Reference, Constant, Activation, Comparison, Condition, End, Rule, Table}
 use Rattle.rule_text.specs.Comparisons.{colon, at_sign, operator_byte}
 use Rattle.rule_text.specs.Conditions.{comma, condition_of}
 use Rattle.rule_text.specs.Rules.{rules_text_of}
@@ -32,8 +32,8 @@ condition_text c = comparisons_text (comparisons_of c)
 
 -- `-` for no end
 unfoldable pub end_text : End → List ℕ
-end_text Never = hyphen ∷ []
-end_text (At b) = digits_of b
+end_text None = hyphen ∷ []
+end_text (Some b) = digits_of b
 
 unfoldable pub rule_fields : Rule → List (List ℕ)
 rule_fields r =

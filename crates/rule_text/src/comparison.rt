@@ -1,153 +1,87 @@
-// Comparisons: each function is handed the part of a condition that begins at what it reads, which
-// ends at a comma or with the part.
+// Comparisons: a reading, an operator, and what it is compared with.
 ghost use Rattle.std.specs.Prelude.{◌≡◌};
-ghost use Rattle.declare.specs.Refusals.{number_of};
-ghost use Rattle.rule_text.specs.Comparisons.{reading_digit, operator_of, k_number, k_field, constant_field, activation_field, reference_field, comparison_field};
-ghost use Rattle.rule_text.specs.Reads.{up_to_comma, operator_read, k_read, reference_read, comparison_read};
+ghost use Rattle.declare.specs.Answers.{answer_of};
+ghost use Rattle.number.specs.Reader.{integer_in};
+ghost use Rattle.rule_text.specs.Comparisons.{digit_of, operator_of, k_answer, k_field, activation_field, reference_field, comparison_field};
 
 use declare::{Comparison, Operator, Reference, Refusal};
-use number::{Fault, IntegerAnswer};
+use line::{byte_at, part_from};
+use number::{Fault, Reader};
 
-// `1` to `4`.
-fn is_reading(byte: u8) -> bool
-    ensures { result ≡ reading_digit byte }
-{
-    (b'1' <= byte) & (byte <= b'4')
-}
-
-#[derive(Clone, Copy)]
-enum OperatorAnswer {
-    Compares(Operator),
-    NoOperator,
-}
-
-fn operator_of(byte: u8) -> OperatorAnswer
-    ensures { operator_read result ≡ operator_of byte }
+// A reading by its digit, `1` to `4`.
+fn digit_of(byte: u8) -> Result<u8, Refusal>
+    ensures { answer_of result ≡ digit_of byte }
 {
     match byte {
-        b'=' => OperatorAnswer::Compares(Operator::Equal),
-        b'!' => OperatorAnswer::Compares(Operator::NotEqual),
-        b'<' => OperatorAnswer::Compares(Operator::Less),
-        b'l' => OperatorAnswer::Compares(Operator::AtMost),
-        b'>' => OperatorAnswer::Compares(Operator::Greater),
-        b'g' => OperatorAnswer::Compares(Operator::AtLeast),
-        _ => OperatorAnswer::NoOperator,
+        b'1'..=b'4' => Ok(byte - b'0'),
+        _ => Err(Refusal::ComparisonForm),
     }
 }
 
-// k, and its length.
-#[derive(Clone, Copy)]
-enum KAnswer {
-    K(i32, usize),
-    NoK(Refusal),
-}
-
-fn refusal_of(fault: Fault) -> Refusal
-    ensures { number_of result ≡ k_number fault }
+fn operator_of(byte: u8) -> Result<Operator, Refusal>
+    ensures { answer_of result ≡ operator_of byte }
 {
-    match fault {
-        Fault::Form => Refusal::ComparisonForm,
-        Fault::Range => Refusal::OutOfRange,
+    match byte {
+        b'=' => Ok(Operator::Equal),
+        b'!' => Ok(Operator::NotEqual),
+        b'<' => Ok(Operator::Less),
+        b'l' => Ok(Operator::AtMost),
+        b'>' => Ok(Operator::Greater),
+        b'g' => Ok(Operator::AtLeast),
+        _ => Err(Refusal::ComparisonForm),
     }
 }
 
-fn k_field(part: &[u8]) -> KAnswer
-    ensures { k_read result ≡ up_to_comma k_field part.now }
+// A k not of the number form is a comparison not of its form: another refusal than `From`'s.
+fn k_answer(reader: Reader) -> Result<i32, Refusal>
+    ensures { answer_of result ≡ k_answer (integer_in reader) }
 {
-    let scan = line::scan_field(part, b',');
-    let reader = scan.reader;
     match reader.integer() {
-        IntegerAnswer::Integer(value) => KAnswer::K(value, scan.length),
-        IntegerAnswer::NoInteger(fault) => KAnswer::NoK(refusal_of(fault)),
+        Ok(k) => Ok(k),
+        Err(Fault::Form) => Err(Refusal::ComparisonForm),
+        Err(Fault::Range) => Err(Refusal::OutOfRange),
     }
 }
 
-// A reference, and its length.
-#[derive(Clone, Copy)]
-enum ReferenceAnswer {
-    Refers(Reference, usize),
-    NoReference(Refusal),
-}
-
-fn constant(part: &[u8]) -> ReferenceAnswer
-    ensures { reference_read result ≡ up_to_comma constant_field part.now }
+fn k_field(field: &[u8]) -> Result<i32, Refusal>
+    ensures { answer_of result ≡ k_field field.now }
 {
-    match k_field(part) {
-        KAnswer::K(value, length) => ReferenceAnswer::Refers(Reference::Constant(value), length),
-        KAnswer::NoK(cause) => ReferenceAnswer::NoReference(cause),
-    }
+    k_answer(Reader::over(field))
 }
 
 // What follows `@`.
-fn activation(part: &[u8]) -> ReferenceAnswer
-    ensures { reference_read result ≡ up_to_comma activation_field part.now }
+fn activation(field: &[u8]) -> Result<Reference, Refusal>
+    ensures { answer_of result ≡ activation_field field.now }
 {
-    let digit = line::byte_at(part, 0);
-    if !is_reading(digit) {
-        return ReferenceAnswer::NoReference(Refusal::ComparisonForm);
+    let g = digit_of(byte_at(field, 0))?;
+    if byte_at(field, 1) != b':' {
+        return Err(Refusal::ComparisonForm);
     }
-    let g = digit - b'0';
-    if line::byte_at(part, 1) != b':' {
-        return ReferenceAnswer::NoReference(Refusal::ComparisonForm);
-    }
-    match k_field(line::part_from(part, 2)) {
-        KAnswer::K(value, length) => {
-            let whole = length + 2;
-            ReferenceAnswer::Refers(Reference::Activation(g, value), whole)
-        }
-        KAnswer::NoK(cause) => ReferenceAnswer::NoReference(cause),
-    }
+    let k = k_field(part_from(field, 2))?;
+    Ok(Reference::Activation(g, k))
 }
 
-fn reference(part: &[u8], correlation: bool) -> ReferenceAnswer
-    ensures { reference_read result ≡ up_to_comma (reference_field correlation) part.now }
+fn reference(field: &[u8], correlation: bool) -> Result<Reference, Refusal>
+    ensures { answer_of result ≡ reference_field correlation field.now }
 {
-    if line::byte_at(part, 0) != b'@' {
-        return constant(part);
+    if byte_at(field, 0) != b'@' {
+        return Ok(Reference::Constant(k_field(field)?));
     }
     if !correlation {
-        return ReferenceAnswer::NoReference(Refusal::ComparisonForm);
+        return Err(Refusal::ComparisonForm);
     }
-    match activation(line::part_from(part, 1)) {
-        ReferenceAnswer::Refers(reference, length) => {
-            let whole = length + 1;
-            ReferenceAnswer::Refers(reference, whole)
-        }
-        ReferenceAnswer::NoReference(cause) => ReferenceAnswer::NoReference(cause),
-    }
+    activation(part_from(field, 1))
 }
 
-// A comparison, and its length.
-#[derive(Clone, Copy)]
-pub enum ComparisonAnswer {
-    Compared(Comparison, usize),
-    NotCompared(Refusal),
-}
-
-pub fn comparison(part: &[u8], correlation: bool) -> ComparisonAnswer
-    ensures { comparison_read result ≡ up_to_comma (comparison_field correlation) part.now }
+pub fn comparison(field: &[u8], correlation: bool) -> Result<Comparison, Refusal>
+    ensures { answer_of result ≡ comparison_field correlation field.now }
 {
-    let digit = line::byte_at(part, 0);
-    if !is_reading(digit) {
-        return ComparisonAnswer::NotCompared(Refusal::ComparisonForm);
-    }
-    let reading = digit - b'0';
-    let operator = match operator_of(line::byte_at(part, 1)) {
-        OperatorAnswer::Compares(operator) => operator,
-        OperatorAnswer::NoOperator => {
-            return ComparisonAnswer::NotCompared(Refusal::ComparisonForm);
-        }
-    };
-    match reference(line::part_from(part, 2), correlation) {
-        ReferenceAnswer::Refers(reference, length) => {
-            let whole = length + 2;
-            let comparison = Comparison {
-                reading,
-                operator,
-                reference,
-            };
-            ComparisonAnswer::Compared(comparison, whole)
-        }
-        ReferenceAnswer::NoReference(cause) => ComparisonAnswer::NotCompared(cause),
-    }
+    let reading = digit_of(byte_at(field, 0))?;
+    let operator = operator_of(byte_at(field, 1))?;
+    let reference = reference(part_from(field, 2), correlation)?;
+    Ok(Comparison {
+        reading,
+        operator,
+        reference,
+    })
 }

@@ -6,60 +6,43 @@ mod comparison; // comparison.rt: comparisons, and what they compare with
 mod condition; // condition.rt: conditions
 mod rule; // rule.rt: rule lines
 
-ghost use Rattle.std.specs.Prelude.{◌≡◌, []};
-ghost use Rattle.declare.specs.Slots.{table_of};
-ghost use Rattle.rule_text.specs.Reads.{ReadsRules};
+ghost use Rattle.std.specs.Prelude.{◌≡◌, List, length};
+ghost use Rattle.declare.specs.Answers.{answer_of};
+ghost use Rattle.rule_text.specs.Types.{Rule as ARule};
+ghost use Rattle.rule_text.specs.Reads.{below, ReadsRules};
 
-use crate::rule::{RuleAnswer, rule_line};
+use crate::rule::rule_line;
 use declare::slots::no_rule;
-use declare::{RULES, Refusal, Table};
-use line::Outcome;
+use declare::{RULES, Refusal, Rule, Table};
+use line::{LineRefusal, at_line, part_from};
 
-#[derive(Clone, Copy)]
-pub struct RulesRead {
-    pub outcome: Outcome,
-    pub table: Table,
-}
-
-// A refused text has no rules.
-fn refused(cause: Refusal, line: usize) -> RulesRead
-    ensures outcome_value { result.outcome ≡ Outcome.Refused cause line }
-    ensures table_value { result.table ≡ table_of [] }
+// The rule of a line below `count` rules.
+fn in_table(answer: Result<Rule, Refusal>, count: usize) -> Result<Rule, Refusal>
+    ensures { (above : List ARule) → count ≡ length above
+        → answer_of result ≡ below above (answer_of answer) }
 {
-    let none = no_rule();
-    let rules = [none; RULES];
-    RulesRead {
-        outcome: Outcome::Refused(cause, line),
-        table: Table { count: 0, rules },
+    let rule = answer?;
+    if RULES <= count {
+        return Err(Refusal::TooMany);
     }
+    Ok(rule)
 }
 
 // The rules of a rules text. Each line's reader is handed the part of the text that begins at the
-// line.
-pub fn read_rules(text: &[u8]) -> RulesRead
+// line. Beside `read_cycle`: one reader for both would take their unlike checks as a closure with a
+// state, which is no plainer.
+pub fn read_rules(text: &[u8]) -> Result<Table, LineRefusal>
     ensures { ReadsRules text.now result }
 {
-    let none = no_rule();
-    let mut rules = [none; RULES];
+    let mut rules = [no_rule(); RULES];
     let mut count: usize = 0;
-    let mut at = 0;
-    while at < text.len() {
-        let line = rule_line(&text[at..]);
-        let answer = line.answer;
-        match answer {
-            RuleAnswer::NoRule(cause) => return refused(cause, count + 1),
-            RuleAnswer::Found(rule) => {
-                if RULES <= count {
-                    return refused(Refusal::TooMany, count + 1);
-                }
-                rules[count] = rule;
-                count += 1;
-                at += line.next;
-            }
-        }
+    let mut rest = text;
+    while !rest.is_empty() {
+        let line = rule_line(rest);
+        let rule = at_line(in_table(line.answer, count), count + 1)?;
+        rules[count] = rule;
+        count += 1;
+        rest = part_from(rest, line.next);
     }
-    RulesRead {
-        outcome: Outcome::Accepted,
-        table: Table { count, rules },
-    }
+    Ok(Table { count, rules })
 }

@@ -1,11 +1,14 @@
 -- The horizon, as the slots of the events give it; and the events of a run with one more.
-use mathlib.Core.Path.{◌≡◌, refl, ap, ◌∙◌}
+use mathlib.Core.Path.{◌≡◌, refl, sym, ap, ◌∙◌}
+use mathlib.Core.Bool.{Bool, true, false}
 use mathlib.Core.List.{List, [], ◌∷◌, ◌++◌}
-use Prim.Native.Nat.{ℕ, suc, ◌-◌, max, ◌≤◌, ◌<◌}
+use borrow.Author.Tests.{leb-true, leb-false}
+use lib.Dec.{leb}
+use Prim.Native.Nat.{ℕ, suc, ◌-◌, max, min, ◌≤◌, ◌<◌}
 use native.Mathlib.Numerals.{add-one}
 use native.Mathlib.Omega.{arith}
 use lib.ListN.{length, get_or, take}
-use lib.Seq.{take-suc, take-suc-set}
+use lib.Seq.{take_all, take-suc, take-suc-set}
 use Rattle.declare.specs.declared.Event.{Event}
 use Rattle.declare.specs.Events.{last_from, last_time, no_event}
 use Rattle.declare.specs.Continuations.{horizon}
@@ -28,6 +31,20 @@ module _ (n : ℕ) (events : List Event) (clock : ℕ) where
       (ap (λ (k : ℕ). last_time (take k events)) m
       ∙ ap last_time (take-suc events (n - 1) no_event (omega arith))
       ∙ last_more (take (n - 1) events) (get_or events (n - 1) no_event))
+
+-- no more events than there are slots
+pub taken_within : (n : ℕ) (events : List Event) → take (min n (length events)) events ≡ take n events
+taken_within n events = go (leb n (length events)) refl
+  where
+    go : (b : Bool) → leb n (length events) ≡ b → take (min n (length events)) events ≡ take n events
+    go true q =
+        let l : n ≤ length events = leb-true n (length events) q in
+        let e : min n (length events) ≡ n = omega arith in
+        rw e refl
+    go false q =
+        let l : length events < n = leb-false n (length events) q in
+        let e : min n (length events) ≡ length events = omega arith in
+        rw e (take_all (length events) events (omega arith) ∙ sym (take_all n events (omega arith)))
 
 pub events_entered : (r : Run) (e : Event) → r.count < length r.events → events_of (entered r (takes e)) ≡ events_of r ++ e ∷ []
 unfolding events_of entered

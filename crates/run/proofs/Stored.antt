@@ -1,6 +1,7 @@
 -- The stored totals are the counts: the record check asks for it, and counting leaves it so.
+use Rattle.std.proofs.Common.{Some, None}
 use mathlib.Core.Path.{◌≡◌, refl, sym, ap, ap₂, ◌∙◌}
-use mathlib.Core.Bool.{Bool, true, false, cond}
+use mathlib.Core.Bool.{Bool, true, false, cond, ◌&&◌, and_assoc}
 use mathlib.Core.List.{List}
 use Prim.Native.Nat.{ℕ, ◌+◌, ◌-◌, ◌≤◌, ◌<◌, min}
 use native.Mathlib.Nat.{zero-add}
@@ -35,6 +36,15 @@ same_is a b h =
 same_self : (a b : Totals) → a ≡ b → same_totals a b ≡ true
 same_self a b e =
     rw e (both₄ (eqb_same b.activations) (eqb_same b.fulfilled) (eqb_same b.violated) (eqb_same b.«open»))
+
+-- `==` compares the four from the last on
+pub same_by_fields : (a b : Totals) → (eqb a.activations b.activations && (eqb a.fulfilled b.fulfilled && (eqb a.violated b.violated && eqb a.«open» b.«open»))) ≡ same_totals a b
+same_by_fields a b =
+    grouped (eqb a.activations b.activations) (eqb a.fulfilled b.fulfilled) (eqb a.violated b.violated) (eqb a.«open» b.«open»)
+  where
+    grouped : (p q r s : Bool) → (p && (q && (r && s))) ≡ (p && q && r && s)
+    grouped true q r s = sym (and_assoc q r s)
+    grouped false q r s = refl
 
 module _ (r : Run) where
   pub stored_is_counted : valid_run r ≡ true → (k : ℕ) → 1 ≤ k → k ≤ r.table.count → stored_totals r k ≡ totals_in r k
@@ -111,6 +121,11 @@ stored_recounted r v size unused =
             let past : r.table.count < k + 1 = leb-false (k + 1) r.table.count q in
             unused (k + 1) past (omega arith)
             ∙ sym (counted_kept bare (k + 1) (omega arith) (omega (arith, slots)) past ∙ replicated most_rules (k + 1 - 1) no_totals)
+
+-- where the rows passed the check, these are their totals
+pub checked_are : {A : Type 0} {x y : A} (b : Bool) → Some x ≡ cond b (Some y) None → (b ≡ true) × (x ≡ y)
+checked_are true e = (refl, cc)
+checked_are false e = cc
 
 -- the check compares with what it counted
 pub totals_checked : (r : Run) → r.table.count ≤ most_rules → r.count ≤ most_events → {begun now : List Totals} → begun ≡ zero_totals r.table r.overall idle_totals → now ≡ row_totals r.table.count r.count r.cells begun → all_below (λ k. same_totals (get_or r.totals k no_totals) (get_or now k no_totals)) r.table.count ≡ valid_totals r

@@ -1,6 +1,5 @@
 -- Cases of start, take, notice and close, and of a whole cycle judged at once.
-use Rattle.std.specs.Prelude.{true, false, List, [], ◌∷◌, ◌++◌, map, ℕ, replicate}
-use Rattle.declare.specs.declared.End.TheVariants.{At}
+use Rattle.std.specs.Prelude.{true, false, List, [], ◌∷◌, ◌++◌, map, ℕ, replicate, Some}
 use Rattle.declare.specs.declared.Event.{Event}
 use Rattle.declare.specs.declared.Standing.{Standing}
 use Rattle.declare.specs.declared.Standing.TheVariants.{Idle, Open, Fulfilled, Violated}
@@ -45,7 +44,7 @@ zeros =
 -- the standings after a take: response within 500 ms
 abbrev pub judged : List Event → ℕ → List Standing → List Standing
 judged events n standings =
-    standings_of (judged_run (record_of false (rule 2 2 (window 0 (At 500)) always ∷ []) 1 events n standings))
+    standings_of (judged_run (record_of false (rule 2 2 (window 0 (Some 500)) always ∷ []) 1 events n standings))
 
 unfoldable pub judgements : List (Case (List Standing))
 judgements =
@@ -61,11 +60,11 @@ judgements =
 -- response within 500 ms, activated at 3, and a kept time
 abbrev pub waiting : ℕ → Run
 waiting clock =
-    with_clock (record_of false (rule 2 2 (window 0 (At 500)) always ∷ []) 1 (event 3 1 ∷ []) 1 (Open ∷ [])) clock
+    with_clock (record_of false (rule 2 2 (window 0 (Some 500)) always ∷ []) 1 (event 3 1 ∷ []) 1 (Open ∷ [])) clock
 
 abbrev pub over_with : ℕ → Run
 over_with clock =
-    with_clock (record_of true (rule 2 2 (window 0 (At 500)) always ∷ []) 1 (event 3 1 ∷ []) 1 (Violated 0 ∷ [])) clock
+    with_clock (record_of true (rule 2 2 (window 0 (Some 500)) always ∷ []) 1 (event 3 1 ∷ []) 1 (Violated 0 ∷ [])) clock
 
 -- the number that a call is refused with, 0 if it is accepted
 abbrev pub number_in : Answer Run → ℕ
@@ -119,10 +118,10 @@ lapses =
     -- a refused one decides nothing
     ∷ noticed (waiting 503) 502 is (Open ∷ [])
     -- judged as by a take: what is decided stays, whatever the events say
-    ∷ noticed (record_of false (rule 2 2 (window 0 (At 500)) always ∷ []) 1 (event 3 1 ∷ event 3 1 ∷ []) 2 (Fulfilled 2 ∷ Idle ∷ [])) 503 is (Fulfilled 2 ∷ Violated 0 ∷ [])
+    ∷ noticed (record_of false (rule 2 2 (window 0 (Some 500)) always ∷ []) 1 (event 3 1 ∷ event 3 1 ∷ []) 2 (Fulfilled 2 ∷ Idle ∷ [])) 503 is (Fulfilled 2 ∷ Violated 0 ∷ [])
     -- all events judged at once, after a notice
-    ∷ (standing_at (running_run (table_of (rule 2 2 (window 0 (At 500)) always ∷ [])) 1 (event_slots (event 3 1 ∷ [])) 502) 1 1 ∷ []) is (Open ∷ [])
-    ∷ (standing_at (running_run (table_of (rule 2 2 (window 0 (At 500)) always ∷ [])) 1 (event_slots (event 3 1 ∷ [])) 503) 1 1 ∷ []) is (Violated 0 ∷ [])
+    ∷ (standing_at (running_run (table_of (rule 2 2 (window 0 (Some 500)) always ∷ [])) 1 (event_slots (event 3 1 ∷ [])) 502) 1 1 ∷ []) is (Open ∷ [])
+    ∷ (standing_at (running_run (table_of (rule 2 2 (window 0 (Some 500)) always ∷ [])) 1 (event_slots (event 3 1 ∷ [])) 503) 1 1 ∷ []) is (Violated 0 ∷ [])
     ∷ []
 
 -- ---- close

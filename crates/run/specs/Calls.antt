@@ -1,5 +1,5 @@
 -- The calls take and notice: "a notice judges as a take does".
-use Rattle.std.specs.Prelude.{true, not, ℕ, ◌+◌, set}
+use Rattle.std.specs.Prelude.{Bool, true, not, ℕ, ◌+◌, set}
 use Rattle.declare.specs.declared.Event.{Event}
 use Rattle.declare.specs.Answers.{Answer, accepted, ◌>>◌, require}
 use Rattle.declare.specs.Steps.{Call, takes, notices, admits}
@@ -18,6 +18,24 @@ unfoldable pub judged_run : Run → Run
 judged_run r =
     counted
     (with_standings r (judged_cells true r.table r.events r.count (horizon_of r) r.cells) (judged_overall true r.table r.events r.count (horizon_of r) r.overall))
+
+-- what take, notice and close ask first
+unfoldable pub ready : Bool → Bool → Answer (Unit {0})
+ready valid closed = do
+  require valid 11
+  require (not closed) 9
+
+-- then a take or a notice
+unfoldable pub admitted : Answer (Unit {0}) → ℕ → ℕ → Call → Answer (Unit {0})
+admitted first n h call = do
+  first
+  admits n h call
+
+-- the time that an accepted notice keeps
+unfoldable pub kept_time : Answer (Unit {0}) → ℕ → ℕ → Answer ℕ
+kept_time first h time = do
+  admitted first 0 h (notices time)
+  accepted time
 
 -- "take: 11, 9, 3, 7, 8", notice 11, 9, 3, 7; `admits` has 3, 7 and 8
 unfoldable pub call_of : Run → Call → Answer Run

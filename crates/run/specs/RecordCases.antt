@@ -1,6 +1,5 @@
 -- Cases of records, at both sides of each limit: what the definitions give, and what it should be.
-use Rattle.std.specs.Prelude.{◌≡◌, Bool, true, false, List, [], ◌∷◌, ◌++◌, map, ℕ, replicate}
-use Rattle.declare.specs.declared.End.TheVariants.{Never}
+use Rattle.std.specs.Prelude.{◌≡◌, Bool, true, false, List, [], ◌∷◌, ◌++◌, map, ℕ, replicate, None}
 use Rattle.declare.specs.declared.Event.{Event}
 use Rattle.declare.specs.declared.Rule.{Rule}
 use Rattle.declare.specs.declared.Standing.{Standing}
@@ -29,7 +28,7 @@ AsExpected {A} cases = map (λ (c : Case A). c.found) cases ≡ map (λ (c : Cas
 
 -- activity 1 is answered by 2
 abbrev pub coded : ℕ → Rule
-coded code = rule code 2 (window 0 Never) always
+coded code = rule code 2 (window 0 None) always
 
 abbrev pub cells_of : List Standing → List Cell
 cells_of standings = map (λ (s : Standing). record { standing = s }) standings

@@ -1,5 +1,5 @@
 -- A run's record, and what makes it valid: the causes of 11.
-use Rattle.std.specs.Prelude.{◌≡◌, Bool, true, not, cond, ◌&&◌, ◌||◌, List, ℕ, ◌+◌, ◌-◌, ◌<◌, min, leb, ltb, eqb, length, get_or, take}
+use Rattle.std.specs.Prelude.{◌≡◌, Bool, true, not, cond, ◌&&◌, ◌||◌, List, ℕ, ◌+◌, ◌-◌, min, leb, ltb, eqb, length, get_or, take}
 use Rattle.declare.specs.declared.Event.{Event}
 use Rattle.declare.specs.declared.Rule.{Rule}
 use Rattle.declare.specs.declared.Standing.{Standing}
@@ -101,10 +101,6 @@ valid_row closed count cells rule =
 -- of n events those that are judged under a rule: one about the cycle "is idle at events"
 unfoldable pub events_judged : Rule → ℕ → ℕ
 events_judged r n = cond (is_overall r.code) 0 n
-
--- rule by rule
-abbrev pub EventsJudged : Table → ℕ → List ℕ → Type 0
-EventsJudged t n counts = (k : ℕ) → k < t.count → get_or counts k 0 ≡ events_judged (rule_at t (k + 1)) n
 
 -- the rows of the rules; other rows are not read
 unfoldable pub valid_standings : Bool → Table → ℕ → List Cell → Bool

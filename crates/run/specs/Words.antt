@@ -1,7 +1,6 @@
 -- Document 01's sentences as statements about rules and positions, beside the definitions that
 -- compute. Proved as `words` in proofs/Words.
-use Rattle.std.specs.Prelude.{◌≡◌, ◌↔◌, ◌⊎◌, Bool, true, false, List, [], ℕ, ◌+◌, ◌-◌, ◌≤◌, ◌<◌, length, get_or}
-use Rattle.declare.specs.declared.Reading.TheVariants.{Blank}
+use Rattle.std.specs.Prelude.{◌≡◌, ◌↔◌, ◌⊎◌, Bool, true, false, List, [], ℕ, ◌+◌, ◌-◌, ◌≤◌, ◌<◌, length, get_or, None}
 use Rattle.declare.specs.declared.Event.{Event}
 use Rattle.declare.specs.declared.Rule.{Rule}
 use Rattle.declare.specs.declared.Table.{Table}
@@ -82,7 +81,7 @@ pub record Starts (t : Table) (r : Run) : Type 0 where
   pub table : r.table ≡ t
   pub count : r.count ≡ 0
   pub slots : length r.events ≡ most_events
-  pub events : (i : ℕ) → 1 ≤ i → i ≤ most_events → event_at r.events i ≡ record { time = 0; activity = 1; reading1 = Blank; reading2 = Blank; reading3 = Blank; reading4 = Blank }
+  pub events : (i : ℕ) → 1 ≤ i → i ≤ most_events → event_at r.events i ≡ record { time = 0; activity = 1; reading1 = None; reading2 = None; reading3 = None; reading4 = None }
   pub cells : length r.cells ≡ places
   pub overall : length r.overall ≡ most_rules
   pub standings : (k i : ℕ) → Placed k i → 1 ≤ i → standing_at r k i ≡ Idle

@@ -9,9 +9,8 @@ ghost use Rattle.run.specs.Answers.{step_answer};
 ghost use Rattle.run.specs.Close.{ClosedCells, close_of};
 
 use crate::record::valid_run;
-use crate::{Outcome, Run, Step};
-use declare::kind::{is_idle, is_open};
-use declare::{EVENTS, RULES, Refusal, Rule, Standing, Table};
+use crate::{Run, Step, running};
+use declare::{EVENTS, RULES, Rule, Standing, Table};
 use judge::overall::judge_overall;
 use judge::template::{decide, template_of};
 use standings::totals::{Totals, with_standing, zero_totals};
@@ -21,12 +20,11 @@ use standings::{Cell, CountedCells, PLACES};
 fn closed(rule: Rule, s: Standing) -> Standing
     ensures { result ≡ cond (is_open s) (decided (polarity_of rule) 0) s }
 {
-    if !is_open(s) {
-        return s;
+    if s.is_open() {
+        decide(template_of(rule.code).polarity, 0)
+    } else {
+        s
     }
-    let template = template_of(rule.code);
-    let polarity = template.polarity;
-    decide(polarity, 0)
 }
 
 // All cells after closing, and counted; only the rows of the rules are gone through. Most cells are
@@ -41,21 +39,15 @@ fn closed_cells(
 {
     let end = table.count * EVENTS;
     for j in 0..end {
-        let c = cells[j];
-        let s = c.standing;
-        if is_idle(s) {
+        let s = cells[j].standing;
+        if s.is_idle() {
             continue;
         }
-        let rule = table.rules[j / EVENTS];
-        let next = closed(rule, s);
+        let next = closed(table.rules[j / EVENTS], s);
         cells[j] = Cell { standing: next };
-        let t = totals[j / EVENTS];
-        totals[j / EVENTS] = with_standing(t, next);
+        totals[j / EVENTS] = with_standing(totals[j / EVENTS], next);
     }
-    CountedCells {
-        cells: cells,
-        totals: totals,
-    }
+    CountedCells { cells, totals }
 }
 
 impl Run {
@@ -64,33 +56,23 @@ impl Run {
     pub fn close(self) -> Step
         ensures { (step_answer result ≡ close_of self) × (result.run ≡ after_call self (close_of self)) }
     {
-        if !valid_run(self) {
-            return self.refused(Refusal::InvalidRecord);
-        }
-        if self.closed {
-            return self.refused(Refusal::WrongPhase);
+        if let Err(cause) = running(valid_run(self), self.closed) {
+            return self.refused(cause);
         }
         let table = self.table;
-        let events = self.events;
-        let cells = self.cells;
-        let overall = self.overall;
-        let totals = self.totals;
-        let zero = judge_overall(false, table, events, self.count, 0, overall);
-        let begun = zero_totals(table, zero, totals);
-        let next = closed_cells(table, cells, begun);
-        let decided = next.cells;
-        let counted = next.totals;
+        let overall = judge_overall(false, table, self.events, self.count, 0, self.overall);
+        let begun = zero_totals(table, overall, self.totals);
+        let next = closed_cells(table, self.cells, begun);
+        let cells = next.cells;
+        let totals = next.totals;
         Step {
-            outcome: Outcome::Done,
+            outcome: Ok(()),
             run: Run {
                 closed: true,
-                table: table,
-                count: self.count,
-                events: events,
-                cells: decided,
-                overall: zero,
-                totals: counted,
-                clock: self.clock,
+                cells,
+                overall,
+                totals,
+                ..self
             },
         }
     }

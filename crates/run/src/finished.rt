@@ -23,12 +23,12 @@ impl Run {
         let totals = judged.totals;
         Run {
             closed: true,
-            table: table,
-            count: count,
-            events: events,
-            cells: cells,
-            overall: overall,
-            totals: totals,
+            table,
+            count,
+            events,
+            cells,
+            overall,
+            totals,
             clock: 0,
         }
     }

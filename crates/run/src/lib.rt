@@ -1,14 +1,13 @@
 // A running cycle: its record, and the calls start, take, notice, standing, totals and close.
 #![tactic(auto)]
 
-ghost use Rattle.std.specs.Prelude.{◌≡◌, ◌≤◌, take};
-ghost use Rattle.declare.specs.Limits.{most_events};
+ghost use Rattle.std.specs.Prelude.{◌≡◌, take};
+ghost use Rattle.declare.specs.Answers.{answer_of};
 ghost use Rattle.declare.specs.Continuations.{horizon};
-ghost use Rattle.run.specs.declared.Outcome.TheVariants.{Done, Refused};
 ghost use Rattle.run.specs.Records.{horizon_of, with_events, with_clock};
-ghost use Rattle.run.specs.Calls.{judged_run};
+ghost use Rattle.run.specs.Calls.{ready, judged_run};
 
-use declare::{EVENTS, Event, RULES, Refusal, Standing, Table};
+use declare::{EVENTS, Event, RULES, Refusal, Table};
 use judge::cells::judge_cells;
 use judge::overall::judge_overall;
 use standings::totals::{Totals, zero_totals};
@@ -23,7 +22,8 @@ mod finished; // finished.rt: a finished cycle, closed at once
 mod queries; // queries.rt: standing and totals
 
 // A run: its rules, the first `count` of its event slots, the standings, at its events and at
-// position 0, the totals of each rule, and the time of the last clock notice.
+// position 0, the totals of each rule, and the time of the last clock notice. Arrays with a count
+// beside them, as document 01 has it: "by value holding an array of 256 event structs".
 #[derive(Clone, Copy)]
 pub struct Run {
     pub closed: bool,
@@ -36,56 +36,46 @@ pub struct Run {
     pub clock: u32,
 }
 
-// Of start, take, notice and close: done, or why not.
-#[derive(Clone, Copy)]
-pub enum Outcome {
-    Done,
-    Refused(Refusal),
-}
-
-// The outcome, and beside it the next run; after a refusal the same run.
+// What start, take, notice and close did, and the next run, after a refusal the same one. The run
+// stands beside the outcome, and not in it: document 01, "returning the run beside the answer". In
+// these calls no checks are handed the run, nor give it back: each such step would copy it.
 #[derive(Clone, Copy)]
 pub struct Step {
-    pub outcome: Outcome,
+    pub outcome: Result<(), Refusal>,
     pub run: Run,
-}
-
-// What standing answers.
-#[derive(Clone, Copy)]
-pub enum StandingAnswer {
-    Is(Standing),
-    Refused(Refusal),
-}
-
-// What totals answers.
-#[derive(Clone, Copy)]
-pub enum TotalsAnswer {
-    Are(Totals),
-    Refused(Refusal),
 }
 
 // The earliest time that an event may have after the first `count` of these and a notice.
 fn horizon(count: usize, events: [Event; EVENTS], clock: u32) -> u32
-    requires { count ≤ most_events }
     ensures { result ≡ horizon (record { events = take count events; clock = clock }) }
 {
-    if count == 0 {
+    let n = count.min(EVENTS);
+    if n == 0 {
         return clock;
     }
-    let last = events[count - 1];
-    if last.time <= clock {
-        return clock;
+    events[n - 1].time.max(clock)
+}
+
+// The checks that take, notice and close begin with: refused with 11 or 9.
+fn running(valid: bool, closed: bool) -> Result<(), Refusal>
+    ensures { answer_of result ≡ ready valid closed }
+{
+    if !valid {
+        return Err(Refusal::InvalidRecord);
     }
-    last.time
+    if closed {
+        return Err(Refusal::WrongPhase);
+    }
+    Ok(())
 }
 
 impl Run {
     // A call refused: the run stays as it was.
     fn refused(self, cause: Refusal) -> Step
-        ensures { result ≡ record { outcome = Refused cause; run = self } }
+        ensures { result ≡ record { outcome = Err cause; run = self } }
     {
         Step {
-            outcome: Outcome::Refused(cause),
+            outcome: Err(cause),
             run: self,
         }
     }
@@ -94,28 +84,24 @@ impl Run {
     // decided ones kept, and counted. No further event comes before `horizon`.
     fn accepted(self, count: usize, events: [Event; EVENTS], clock: u32, horizon: u32) -> Step
         requires { horizon ≡ horizon_of (with_clock (with_events self count events) clock) }
-        ensures { result ≡ record { outcome = Done; run = judged_run (with_clock (with_events self count events) clock) } }
+        ensures { result ≡ record { outcome = Ok tt; run = judged_run (with_clock (with_events self count events) clock) } }
     {
         let table = self.table;
-        let cells = self.cells;
-        let overall = self.overall;
-        let totals = self.totals;
-        let zero = judge_overall(true, table, events, count, horizon, overall);
-        let begun = zero_totals(table, zero, totals);
-        let next = judge_cells(true, table, events, count, horizon, cells, begun);
-        let judged = next.cells;
-        let counted = next.totals;
+        let overall = judge_overall(true, table, events, count, horizon, self.overall);
+        let begun = zero_totals(table, overall, self.totals);
+        let next = judge_cells(true, table, events, count, horizon, self.cells, begun);
+        let cells = next.cells;
+        let totals = next.totals;
         Step {
-            outcome: Outcome::Done,
+            outcome: Ok(()),
             run: Run {
-                closed: self.closed,
-                table: table,
-                count: count,
-                events: events,
-                cells: judged,
-                overall: zero,
-                totals: counted,
-                clock: clock,
+                count,
+                events,
+                cells,
+                overall,
+                totals,
+                clock,
+                ..self
             },
         }
     }

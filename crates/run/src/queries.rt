@@ -1,64 +1,62 @@
 // The calls standing and totals: what a record says, without changing it.
 ghost use Rattle.std.specs.Prelude.{◌≡◌};
-ghost use Rattle.run.specs.Answers.{standing_answer, totals_answer};
+ghost use Rattle.declare.specs.Answers.{answer_of};
 ghost use Rattle.run.specs.Queries.{one_of, is_position, standing_of, totals_of};
 
+use crate::Run;
 use crate::record::valid_run;
-use crate::{Run, StandingAnswer, TotalsAnswer};
 use declare::codes::is_overall_rule;
-use declare::{Refusal, Table};
+use declare::{Refusal, Standing, Table};
+use standings::totals::Totals;
 use standings::{standing_in, zero_in};
 
 // Whether k is one of 1 to n.
 fn one_of(n: usize, k: usize) -> bool
     ensures { result ≡ one_of n k }
 {
-    (1 <= k) & (k <= n)
+    (1..=n).contains(&k)
 }
 
 // Whether i is a position of rule k, of n events.
+#[tactic(auto, unfolding(crate::specs::Queries::is_position))]
 fn is_position(table: Table, n: usize, k: usize, i: usize) -> bool
     ensures { result ≡ is_position table n k i }
 {
     if i == 0 {
-        return is_overall_rule(table, k);
+        is_overall_rule(table, k)
+    } else {
+        i <= n
     }
-    i <= n
 }
 
 impl Run {
     // The standing of a rule's position. Refused with 11 or 10.
-    pub fn standing(self, rule: usize, position: usize) -> StandingAnswer
-        ensures { standing_answer result ≡ standing_of self rule position }
+    pub fn standing(self, rule: usize, position: usize) -> Result<Standing, Refusal>
+        ensures { answer_of result ≡ standing_of self rule position }
     {
         if !valid_run(self) {
-            return StandingAnswer::Refused(Refusal::InvalidRecord);
+            return Err(Refusal::InvalidRecord);
         }
         let table = self.table;
-        let found = one_of(table.count, rule) & is_position(table, self.count, rule, position);
-        if !found {
-            return StandingAnswer::Refused(Refusal::NotFound);
+        if !(one_of(table.count, rule) & is_position(table, self.count, rule, position)) {
+            return Err(Refusal::NotFound);
         }
         if position == 0 {
-            let overall = self.overall;
-            return StandingAnswer::Is(zero_in(table, overall, rule));
+            return Ok(zero_in(table, self.overall, rule));
         }
-        let cells = self.cells;
-        let s = standing_in(cells, rule, position);
-        StandingAnswer::Is(s)
+        Ok(standing_in(self.cells, rule, position))
     }
 
     // The stored totals of a rule. Refused with 11 or 10.
-    pub fn totals(self, rule: usize) -> TotalsAnswer
-        ensures { totals_answer result ≡ totals_of self rule }
+    pub fn totals(self, rule: usize) -> Result<Totals, Refusal>
+        ensures { answer_of result ≡ totals_of self rule }
     {
         if !valid_run(self) {
-            return TotalsAnswer::Refused(Refusal::InvalidRecord);
+            return Err(Refusal::InvalidRecord);
         }
         if !one_of(self.table.count, rule) {
-            return TotalsAnswer::Refused(Refusal::NotFound);
+            return Err(Refusal::NotFound);
         }
-        let t = self.totals[rule - 1];
-        TotalsAnswer::Are(t)
+        Ok(self.totals[rule - 1])
     }
 }

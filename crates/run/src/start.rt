@@ -3,7 +3,7 @@ ghost use Rattle.std.specs.Prelude.{◌≡◌};
 ghost use Rattle.run.specs.Answers.{step_answer};
 ghost use Rattle.run.specs.Start.{new_run, start_of, started};
 
-use crate::{Outcome, Run, Step};
+use crate::{Run, Step};
 use declare::slots::{empty_slot, empty_table};
 use declare::{EVENTS, Refusal, Table};
 use judge::overall::judge_overall;
@@ -21,12 +21,12 @@ pub fn new_run(table: Table) -> Run
     let totals = zero_totals(table, overall, idle_totals());
     Run {
         closed: false,
-        table: table,
+        table,
         count: 0,
-        events: events,
+        events,
         cells: idle_cells(),
-        overall: overall,
-        totals: totals,
+        overall,
+        totals,
         clock: 0,
     }
 }
@@ -39,12 +39,12 @@ impl Run {
     {
         if !valid_table(table) {
             return Step {
-                outcome: Outcome::Refused(Refusal::InvalidRecord),
+                outcome: Err(Refusal::InvalidRecord),
                 run: new_run(empty_table()),
             };
         }
         Step {
-            outcome: Outcome::Done,
+            outcome: Ok(()),
             run: new_run(table),
         }
     }

@@ -60,7 +60,7 @@ module _ {n : ℕ} {cells : List Cell} {before now : List Totals} {j : ℕ} (c :
   standing = (get_or cells j idle_cell).standing
 
   -- places passed over that no row counts
-  counting_skip : (m : ℕ) → ((k : ℕ) → min n (m - k * most_events) ≡ min n (j - k * most_events)) → Counting n cells before now m
+  pub counting_skip : (m : ℕ) → ((k : ℕ) → min n (m - k * most_events) ≡ min n (j - k * most_events)) → Counting n cells before now m
   counting_skip m same =
       record { full = c.full; size = c.size; slots = λ k l. let e = same k in rw e (c.slots k l) }
 

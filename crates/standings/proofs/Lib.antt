@@ -4,4 +4,3 @@ pub mod Changes
 pub mod Same
 pub mod Counts
 pub mod Counting
-mod Rows

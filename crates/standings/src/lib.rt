@@ -8,7 +8,6 @@ ghost use Rattle.standings.specs.Places.{idle_cells, idle_overall, standing_in, 
 use crate::place::row_start;
 use crate::totals::Totals;
 use declare::codes::is_overall_rule;
-use declare::numbers::less_one;
 use declare::{RULES, Standing, Table};
 
 mod place; // place.rt: where the rows begin
@@ -22,6 +21,11 @@ pub struct Cell {
     pub standing: Standing,
 }
 
+// As start gives it.
+const IDLE: Cell = Cell {
+    standing: Standing::Idle,
+};
+
 // The cells of all rules, and totals that count them.
 #[derive(Clone, Copy)]
 pub struct CountedCells {
@@ -33,43 +37,32 @@ pub struct CountedCells {
 pub fn idle_cells() -> [Cell; PLACES]
     ensures { result ≡ idle_cells }
 {
-    let idle = Cell {
-        standing: Standing::Idle,
-    };
-    [idle; PLACES]
+    [IDLE; PLACES]
 }
 
 // The same for position 0, one cell a rule.
 pub fn idle_overall() -> [Cell; RULES]
     ensures { result ≡ idle_overall }
 {
-    let idle = Cell {
-        standing: Standing::Idle,
-    };
-    [idle; RULES]
+    [IDLE; RULES]
 }
 
 // The standing of a rule's position; both count from 1. Past the cells it is idle.
 pub fn standing_in(cells: [Cell; PLACES], rule: usize, position: usize) -> Standing
     ensures { result ≡ standing_in cells rule position }
 {
-    let first = row_start(rule);
-    let p = less_one(position);
-    if PLACES - first <= p {
-        return Standing::Idle;
-    }
-    let c = cells[first + p];
-    c.standing
+    let place = row_start(rule).saturating_add(position.saturating_sub(1));
+    cells.get(place).map_or(Standing::Idle, |c| c.standing)
 }
 
 // The standing of a rule at position 0: that of its cell, if it is about the cycle as such.
 pub fn zero_in(table: Table, cells: [Cell; RULES], rule: usize) -> Standing
     ensures { result ≡ zero_in table cells rule }
 {
-    let k = less_one(rule);
-    if !is_overall_rule(table, rule) | (RULES <= k) {
+    if !is_overall_rule(table, rule) {
         return Standing::Idle;
     }
-    let c = cells[k];
-    c.standing
+    cells
+        .get(rule.saturating_sub(1))
+        .map_or(Standing::Idle, |c| c.standing)
 }

@@ -2,16 +2,15 @@
 ghost use Rattle.std.specs.Prelude.{◌≡◌, cond};
 ghost use Rattle.declare.specs.declared.Standing.TheVariants.{Idle};
 ghost use Rattle.declare.specs.Overall.{is_overall};
-ghost use Rattle.standings.specs.Totals.{no_totals, one_more, with_standing, idle_totals, zero_totals};
+ghost use Rattle.standings.specs.Totals.{no_totals, with_standing, idle_totals, zero_totals};
 
 use crate::Cell;
 use declare::codes::is_overall;
-use declare::numbers::min;
 use declare::{RULES, Standing, Table};
 
 // How many positions of a rule are not idle, and how many of these are fulfilled, violated and
 // open.
-#[derive(Clone, Copy)]
+#[derive(Clone, Copy, PartialEq, Eq)]
 pub struct Totals {
     pub activations: u16,
     pub fulfilled: u16,
@@ -31,36 +30,28 @@ pub fn no_totals() -> Totals
     }
 }
 
-// One more, in 16 bits.
-fn one_more(n: u16) -> u16
-    ensures { result ≡ one_more n }
-{
-    if n < 65535 { n + 1 } else { 0 }
-}
-
-// The totals of one position more, with the standing s.
+// The totals of one position more, with the standing s; each counts in 16 bits.
+#[tactic(auto, unfolding(crate::specs::Totals::with_standing))]
 pub fn with_standing(t: Totals, s: Standing) -> Totals
     ensures { result ≡ with_standing t s }
 {
+    let activations = t.activations.wrapping_add(1);
     match s {
         Standing::Idle => t,
         Standing::Open => Totals {
-            activations: one_more(t.activations),
-            fulfilled: t.fulfilled,
-            violated: t.violated,
-            open: one_more(t.open),
+            activations,
+            open: t.open.wrapping_add(1),
+            ..t
         },
         Standing::Fulfilled(_) => Totals {
-            activations: one_more(t.activations),
-            fulfilled: one_more(t.fulfilled),
-            violated: t.violated,
-            open: t.open,
+            activations,
+            fulfilled: t.fulfilled.wrapping_add(1),
+            ..t
         },
         Standing::Violated(_) => Totals {
-            activations: one_more(t.activations),
-            fulfilled: t.fulfilled,
-            violated: one_more(t.violated),
-            open: t.open,
+            activations,
+            violated: t.violated.wrapping_add(1),
+            ..t
         },
     }
 }
@@ -69,8 +60,7 @@ pub fn with_standing(t: Totals, s: Standing) -> Totals
 pub fn idle_totals() -> [Totals; RULES]
     ensures { result ≡ idle_totals }
 {
-    let none = no_totals();
-    [none; RULES]
+    [no_totals(); RULES]
 }
 
 // The standing at position 0 of a rule with this code and cell.
@@ -93,11 +83,11 @@ pub fn zero_totals(
 ) -> [Totals; RULES]
     ensures { result ≡ zero_totals table overall totals }
 {
-    let rules = min(table.count, RULES);
+    let rules = table.count.min(RULES);
+    // One index for three arrays: an iterator over one of them would be no plainer.
     for k in 0..rules {
-        let rule = table.rules[k];
-        let c = overall[k];
-        totals[k] = with_standing(no_totals(), zero_of(rule.code, c));
+        let zero = zero_of(table.rules[k].code, overall[k]);
+        totals[k] = with_standing(no_totals(), zero);
     }
     totals
 }

@@ -1,18 +1,15 @@
 -- The tally at both sides of its limit, and its refusals: what the definitions give, and what it
 -- should be. Proved as `checked` in proofs/Cases.
-use Rattle.std.specs.Prelude.{Bool, true, false, List, [], ◌∷◌, ◌++◌, ℕ, replicate}
+use Rattle.std.specs.Prelude.{Bool, true, false, List, [], ◌∷◌, ◌++◌, ℕ, replicate, Ok, Err}
 use Rattle.declare.specs.declared.Standing.{Standing}
 use Rattle.declare.specs.declared.Standing.TheVariants.{Idle, Open, Fulfilled, Violated}
 use Rattle.declare.specs.declared.Refusal.TheVariants.{InvalidRecord, NotFound, WrongPhase, TallyOverflow}
-use Rattle.declare.specs.Refusals.{number_of}
-use Rattle.declare.specs.Answers.{Answer, accepted, refused, after_call}
+use Rattle.declare.specs.Answers.{Answer, accepted, refused, after_call, answer_of}
 use Rattle.run.specs.declared.Run.{Run}
 use Rattle.standings.specs.declared.totals.Totals.{Totals}
 use Rattle.run.specs.RecordCases.{Case, ◌is◌, AsExpected, of_standings, totals}
 use Rattle.tally.specs.declared.Tally.{Tally}
-use Rattle.tally.specs.declared.Outcome.TheVariants as Outcome
-use Rattle.tally.specs.declared.CountedAnswer.TheVariants as CountedAnswer
-use Rattle.tally.specs.Tally.{has_room_for, added, counts_of, with_totals, absorb_of, tally_answer, counted_answer}
+use Rattle.tally.specs.Tally.{has_room_for, added, counts_of, with_totals, absorb_of, tally_answer}
 
 -- cycles, activations, fulfilled, violated
 abbrev pub tally : ℕ → ℕ → ℕ → ℕ → Tally
@@ -84,19 +81,19 @@ afterwards =
 -- an answer of the code has the number of the refusal of that name
 unfoldable pub answers : List (Case (Answer Tally))
 answers =
-    tally_answer (tally 1 2 3 4) Outcome.Absorbed is accepted (tally 1 2 3 4)
-    ∷ tally_answer (tally 1 2 3 4) Outcome.InvalidRecord is refused (number_of InvalidRecord)
-    ∷ tally_answer (tally 1 2 3 4) Outcome.NotFound is refused (number_of NotFound)
-    ∷ tally_answer (tally 1 2 3 4) Outcome.WrongPhase is refused (number_of WrongPhase)
-    ∷ tally_answer (tally 1 2 3 4) Outcome.Overflow is refused (number_of TallyOverflow)
+    tally_answer (tally 1 2 3 4) (Ok tt) is accepted (tally 1 2 3 4)
+    ∷ tally_answer (tally 1 2 3 4) (Err InvalidRecord) is refused 11
+    ∷ tally_answer (tally 1 2 3 4) (Err NotFound) is refused 10
+    ∷ tally_answer (tally 1 2 3 4) (Err WrongPhase) is refused 9
+    ∷ tally_answer (tally 1 2 3 4) (Err TallyOverflow) is refused 14
     ∷ []
 
 unfoldable pub counted_answers : List (Case (Answer Totals))
 counted_answers =
-    counted_answer (CountedAnswer.Are (totals 1 2 3 4)) is accepted (totals 1 2 3 4)
-    ∷ counted_answer CountedAnswer.InvalidRecord is refused (number_of InvalidRecord)
-    ∷ counted_answer CountedAnswer.NotFound is refused (number_of NotFound)
-    ∷ counted_answer CountedAnswer.WrongPhase is refused (number_of WrongPhase)
+    answer_of (Ok (totals 1 2 3 4)) is accepted (totals 1 2 3 4)
+    ∷ answer_of (Err InvalidRecord) is refused 11
+    ∷ answer_of (Err NotFound) is refused 10
+    ∷ answer_of (Err WrongPhase) is refused 9
     ∷ []
 
 pub record Checked : Type 0 where

@@ -1,3 +1,2 @@
 pub mod Tally
-pub mod Sums
 pub mod Cases

@@ -1,17 +1,15 @@
 -- "A tally for one rule has cycles, activations, fulfilled, violated (32 bits each). Absorbing a
 -- closed run alters the caller's tally in place: cycles by 1, the others by that rule's totals."
-use Rattle.std.specs.Prelude.{◌≡◌, Bool, ◌&&◌, ℕ, ◌+◌, leb}
-use Rattle.declare.specs.Answers.{Answer, accepted, refused, ◌>>=◌, ◌>>◌, require, after_call}
+use Rattle.std.specs.Prelude.{◌≡◌, Bool, ◌&&◌, ℕ, ◌+◌, leb, Result, Ok, Err}
+use Rattle.declare.specs.declared.Refusal.{Refusal}
+use Rattle.declare.specs.Refusals.{number_of}
+use Rattle.declare.specs.Answers.{Answer, accepted, refused, ◌>>=◌, ◌>>◌, require, after_call, answer_of}
 use Rattle.standings.specs.declared.totals.Totals.{Totals}
 use Rattle.run.specs.declared.Run.{Run}
 use Rattle.run.specs.Records.{totals_in, valid_run}
 use Rattle.run.specs.Queries.{one_of}
 use Rattle.tally.specs.declared.Tally.{Tally}
-use Rattle.tally.specs.declared.CountedAnswer.{CountedAnswer}
-use Rattle.tally.specs.declared.CountedAnswer.TheVariants as counted
 use Rattle.tally.specs.declared.Counted.{Counted}
-use Rattle.tally.specs.declared.Outcome.{Outcome}
-use Rattle.tally.specs.declared.Outcome.TheVariants.{Absorbed, InvalidRecord, NotFound, WrongPhase, Overflow}
 
 -- a field has 32 bits
 abbrev pub most_counted : ℕ
@@ -57,28 +55,19 @@ absorb_of r rule t = do
 -- ---- the answers of the code, in document 01's numbers
 
 -- a call with this outcome leaves the tally t if it is done
-unfoldable pub tally_answer : Tally → Outcome → Answer Tally
-tally_answer t Absorbed = accepted t
-tally_answer t InvalidRecord = refused 11
-tally_answer t NotFound = refused 10
-tally_answer t WrongPhase = refused 9
-tally_answer t Overflow = refused 14
-
-unfoldable pub counted_answer : CountedAnswer → Answer Totals
-counted_answer (counted.Are c) = accepted c
-counted_answer counted.InvalidRecord = refused 11
-counted_answer counted.NotFound = refused 10
-counted_answer counted.WrongPhase = refused 9
+unfoldable pub tally_answer : Tally → Result (Unit {0}) Refusal → Answer Tally
+tally_answer t (Ok done) = accepted t
+tally_answer t (Err cause) = refused (number_of cause)
 
 -- what a rule of a run brings
 pub record Counts (r : Run) (rule : ℕ) (c : Counted) : Type 0 where
-  pub answers : counted_answer c.answer ≡ counts_of r rule
+  pub answers : answer_of c.answer ≡ counts_of r rule
 
 -- the tally with what was counted
 unfoldable pub with_counted : Tally → Counted → Answer Tally
-with_counted t c = counted_answer c.answer >>= with_totals t
+with_counted t c = answer_of c.answer >>= with_totals t
 
 -- absorbing it leads from the tally `before` to the tally `next`, with this outcome
-pub record Absorbs (before : Tally) (c : Counted) (next : Tally) (outcome : Outcome) : Type 0 where
+pub record Absorbs (before : Tally) (c : Counted) (next : Tally) (outcome : Result (Unit {0}) Refusal) : Type 0 where
   pub answers : tally_answer next outcome ≡ with_counted before c
   pub leaves : next ≡ after_call before (with_counted before c)

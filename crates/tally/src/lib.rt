@@ -1,16 +1,13 @@
 // The day tally of one rule.
 #![tactic(auto)]
 
-ghost use Rattle.std.specs.Prelude.{◌≡◌, ◌+◌, leb};
-ghost use Rattle.tally.specs.Tally.{most_counted, has_room_for, Counts, Absorbs};
-ghost use Rattle.tally.specs.Sums.{summed, counted_for, counted_by};
+ghost use Rattle.std.specs.Prelude.{◌≡◌, cond};
+ghost use Rattle.declare.specs.Answers.{answer_of};
+ghost use Rattle.tally.specs.Tally.{has_room_for, added, counts_of, with_counted, Counts, Absorbs};
 
-use declare::{Refusal, number_of};
-use run::{Run, TotalsAnswer};
+use declare::Refusal;
+use run::Run;
 use standings::totals::Totals;
-
-// The most that a field of a tally can count.
-pub const MOST_COUNTED: u64 = 4294967295;
 
 // How many cycles were absorbed, and the sums of their totals.
 #[derive(Clone, Copy)]
@@ -21,121 +18,61 @@ pub struct Tally {
     pub violated: u32,
 }
 
-// Of absorbing: done, or why not.
-#[derive(Clone, Copy)]
-pub enum Outcome {
-    Absorbed,
-    InvalidRecord,
-    NotFound,
-    WrongPhase,
-    Overflow,
-}
-
-// The outcome, and the tally after it; after a refusal the same tally.
+// What absorbing did, and beside it the tally after it, after a refusal the same one: document 01,
+// "a refusal alters neither run nor tally".
 #[derive(Clone, Copy)]
 pub struct Sum {
     pub tally: Tally,
-    pub outcome: Outcome,
-}
-
-fn wide(x: u32) -> u64
-    ensures { result ≡ x }
-{
-    x as u64
-}
-
-fn number(x: u16) -> u32
-    ensures { result ≡ x }
-{
-    x as u32
-}
-
-// Whether a field can take this many more.
-fn has_room(x: u32, more: u32) -> bool
-    ensures { result ≡ leb (x + more) most_counted }
-{
-    wide(x) + wide(more) <= MOST_COUNTED
-}
-
-fn has_room_for(tally: Tally, totals: Totals) -> bool
-    ensures { result ≡ has_room_for tally totals }
-{
-    has_room(tally.cycles, 1)
-        & has_room(tally.activations, number(totals.activations))
-        & has_room(tally.fulfilled, number(totals.fulfilled))
-        & has_room(tally.violated, number(totals.violated))
-}
-
-// The tally with the totals of one cycle more; as it was if a field would pass its range.
-fn with_totals(tally: Tally, totals: Totals) -> Sum
-    ensures { result ≡ summed tally totals }
-{
-    if !has_room_for(tally, totals) {
-        return Sum {
-            tally: tally,
-            outcome: Outcome::Overflow,
-        };
-    }
-    let next = Tally {
-        cycles: tally.cycles + 1,
-        activations: tally.activations + number(totals.activations),
-        fulfilled: tally.fulfilled + number(totals.fulfilled),
-        violated: tally.violated + number(totals.violated),
-    };
-    Sum {
-        tally: next,
-        outcome: Outcome::Absorbed,
-    }
-}
-
-// The totals of a rule of a closed run, or why there are none: 14 is no such cause. Public, so that
-// a struct of another crate that holds a Counted is covered.
-#[derive(Clone, Copy)]
-pub enum CountedAnswer {
-    Are(Totals),
-    InvalidRecord,
-    NotFound,
-    WrongPhase,
+    pub outcome: Result<(), Refusal>,
 }
 
 // What a tally takes from a run. The field is private, so that only counted_of makes one.
 #[derive(Clone, Copy)]
 pub struct Counted {
-    answer: CountedAnswer,
+    answer: Result<Totals, Refusal>,
 }
 
-// The totals refuse an invalid record, or a rule that is not there.
-fn counted_for(cause: Refusal) -> CountedAnswer
-    ensures { result ≡ counted_for cause }
+// The tally with the totals of one cycle more, if no field would pass its range.
+#[tactic(auto, unfolding(crate::specs::Tally::has_room_for))]
+fn added(tally: Tally, totals: Totals) -> Option<Tally>
+    ensures { result ≡ cond (has_room_for tally totals) (Some (added tally totals)) None }
 {
-    if number_of(cause) == 10 {
-        return CountedAnswer::NotFound;
-    }
-    CountedAnswer::InvalidRecord
-}
-
-fn counted_by(closed: bool, answer: TotalsAnswer) -> CountedAnswer
-    ensures { result ≡ counted_by closed answer }
-{
-    match answer {
-        TotalsAnswer::Are(totals) => {
-            if !closed {
-                return CountedAnswer::WrongPhase;
-            }
-            CountedAnswer::Are(totals)
-        },
-        TotalsAnswer::Refused(cause) => counted_for(cause),
-    }
+    Some(Tally {
+        cycles: tally.cycles.checked_add(1)?,
+        activations: tally
+            .activations
+            .checked_add(u32::from(totals.activations))?,
+        fulfilled: tally.fulfilled.checked_add(u32::from(totals.fulfilled))?,
+        violated: tally.violated.checked_add(u32::from(totals.violated))?,
+    })
 }
 
 // The totals of a rule of a closed run. Refused with 11, 10 or 9.
+fn totals_of(run: Run, rule: usize) -> Result<Totals, Refusal>
+    ensures { answer_of result ≡ counts_of run rule }
+{
+    let totals = run.totals(rule)?;
+    if !run.closed {
+        return Err(Refusal::WrongPhase);
+    }
+    Ok(totals)
+}
+
+// The same, for a tally to absorb.
 pub fn counted_of(run: Run, rule: usize) -> Counted
     ensures { Counts run rule result }
 {
-    let answer = run.totals(rule);
     Counted {
-        answer: counted_by(run.closed, answer),
+        answer: totals_of(run, rule),
     }
+}
+
+// The tally with what was counted. Refused as that is, or with 14.
+fn next(tally: Tally, counted: Counted) -> Result<Tally, Refusal>
+    ensures { answer_of result ≡ with_counted tally counted }
+{
+    let totals = counted.answer?;
+    added(tally, totals).ok_or(Refusal::TallyOverflow)
 }
 
 // The tally with the totals of one cycle more, by value. Refused as they are, or with 14, the tally
@@ -143,29 +80,22 @@ pub fn counted_of(run: Run, rule: usize) -> Counted
 pub fn absorbed(tally: Tally, counted: Counted) -> Sum
     ensures { Absorbs tally counted result.tally result.outcome }
 {
-    let answer = counted.answer;
-    match answer {
-        CountedAnswer::Are(totals) => with_totals(tally, totals),
-        CountedAnswer::InvalidRecord => Sum {
-            tally: tally,
-            outcome: Outcome::InvalidRecord,
+    match next(tally, counted) {
+        Ok(next) => Sum {
+            tally: next,
+            outcome: Ok(()),
         },
-        CountedAnswer::NotFound => Sum {
-            tally: tally,
-            outcome: Outcome::NotFound,
-        },
-        CountedAnswer::WrongPhase => Sum {
-            tally: tally,
-            outcome: Outcome::WrongPhase,
+        Err(cause) => Sum {
+            tally,
+            outcome: Err(cause),
         },
     }
 }
 
 // The same in place: absorb(&mut tally, counted_of(run, rule)) absorbs a closed run.
-pub fn absorb(tally: &mut Tally, counted: Counted) -> Outcome
+pub fn absorb(tally: &mut Tally, counted: Counted) -> Result<(), Refusal>
     ensures { Absorbs tally.old counted tally.new result }
 {
-    let s = absorbed(*tally, counted);
-    *tally = s.tally;
-    s.outcome
+    *tally = next(*tally, counted)?;
+    Ok(())
 }

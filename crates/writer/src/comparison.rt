@@ -3,10 +3,9 @@ ghost use Rattle.std.specs.Prelude.{◌≡◌};
 ghost use Rattle.declare.specs.declared.Reference.TheVariants.{Activation};
 ghost use Rattle.rule_text.specs.Comparisons.{operator_byte};
 ghost use Rattle.rule_text.specs.Written.{reference_text, comparison_text};
-ghost use Rattle.buffer.specs.Puts.{Puts};
+ghost use Rattle.buffer.specs.Puts.{Put};
 
-use buffer::numbers::{put_integer, put_number};
-use buffer::put::put_byte;
+use buffer::put::Output;
 use declare::{Comparison, Operator, Reference};
 
 fn operator_byte(operator: Operator) -> u8
@@ -23,30 +22,28 @@ fn operator_byte(operator: Operator) -> u8
 }
 
 // Reading g of the activation plus k.
-fn put_activation(out: &mut [u8], at: usize, g: u8, k: i32) -> usize
-    ensures { Puts (reference_text (Activation g k)) out.old at out.new result }
+fn put_activation(out: &mut Output<'_>, g: u8, k: i32)
+    ensures { Put (reference_text (Activation g k)) out.old out.new }
 {
-    let at = put_byte(out, at, b'@');
-    let at = put_number(out, at, g as u32);
-    let at = put_byte(out, at, b':');
-    put_integer(out, at, k)
+    out.put_byte(b'@');
+    out.put_number(u32::from(g));
+    out.put_byte(b':');
+    out.put_integer(k);
 }
 
-fn put_reference(out: &mut [u8], at: usize, reference: Reference) -> usize
-    ensures { Puts (reference_text reference) out.old at out.new result }
+fn put_reference(out: &mut Output<'_>, reference: Reference)
+    ensures { Put (reference_text reference) out.old out.new }
 {
     match reference {
-        Reference::Constant(k) => put_integer(out, at, k),
-        Reference::Activation(g, k) => put_activation(out, at, g, k),
+        Reference::Constant(k) => out.put_integer(k),
+        Reference::Activation(g, k) => put_activation(out, g, k),
     }
 }
 
-pub fn put_comparison(out: &mut [u8], at: usize, c: Comparison) -> usize
-    ensures { Puts (comparison_text c) out.old at out.new result }
+pub fn put_comparison(out: &mut Output<'_>, c: Comparison)
+    ensures { Put (comparison_text c) out.old out.new }
 {
-    let operator = c.operator;
-    let reference = c.reference;
-    let at = put_number(out, at, c.reading as u32);
-    let at = put_byte(out, at, operator_byte(operator));
-    put_reference(out, at, reference)
+    out.put_number(u32::from(c.reading));
+    out.put_byte(operator_byte(c.operator));
+    put_reference(out, c.reference);
 }

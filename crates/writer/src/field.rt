@@ -2,32 +2,31 @@
 ghost use Rattle.std.specs.Prelude.{[], ◌∷◌, ◌++◌};
 ghost use Rattle.number.specs.Written.{digits_of};
 ghost use Rattle.line.specs.Values.{reading_text};
-ghost use Rattle.buffer.specs.Puts.{Puts};
+ghost use Rattle.buffer.specs.Puts.{Put};
 
-use buffer::numbers::{put_integer, put_number_field};
-use buffer::put::put_byte;
+use buffer::put::Output;
 use declare::Reading;
 
 // A code or an activity, and the byte that ends its field.
-pub fn put_byte_field(out: &mut [u8], at: usize, n: u8, end: u8) -> usize
-    ensures { Puts (digits_of n ++ (end ∷ [])) out.old at out.new result }
+pub fn put_byte_field(out: &mut Output<'_>, n: u8, end: u8)
+    ensures { Put (digits_of n ++ (end ∷ [])) out.old out.new }
 {
-    put_number_field(out, at, n as u32, end)
+    out.put_number_field(u32::from(n), end);
 }
 
-fn put_reading(out: &mut [u8], at: usize, reading: Reading) -> usize
-    ensures { Puts (reading_text reading) out.old at out.new result }
+fn put_reading(out: &mut Output<'_>, reading: Reading)
+    ensures { Put (reading_text reading) out.old out.new }
 {
     match reading {
-        Reading::Blank => put_byte(out, at, b'-'),
-        Reading::Value(z) => put_integer(out, at, z),
+        None => out.put_byte(b'-'),
+        Some(z) => out.put_integer(z),
     }
 }
 
 // A reading, and the byte that ends its field.
-pub fn put_reading_field(out: &mut [u8], at: usize, reading: Reading, end: u8) -> usize
-    ensures { Puts (reading_text reading ++ (end ∷ [])) out.old at out.new result }
+pub fn put_reading_field(out: &mut Output<'_>, reading: Reading, end: u8)
+    ensures { Put (reading_text reading ++ (end ∷ [])) out.old out.new }
 {
-    let at = put_reading(out, at, reading);
-    put_byte(out, at, end)
+    put_reading(out, reading);
+    out.put_byte(end);
 }

@@ -3,7 +3,8 @@
 
 ghost use Rattle.writer.specs.Writer.{WritesRules, WritesCycle};
 
-use buffer::{WriteAnswer, write};
+use buffer::put::Output;
+use buffer::write;
 use declare::{Refusal, Table};
 use limits::table::valid_table;
 use run::Run;
@@ -21,27 +22,35 @@ pub const RULES_BYTES: usize = 2480;
 pub const CYCLE_BYTES: usize = 15872;
 
 // The rules of the table. Refused with 11 or 15.
-pub fn write_rules(table: Table, out: &mut [u8]) -> WriteAnswer
+pub fn write_rules(table: Table, out: &mut [u8]) -> Result<usize, Refusal>
     ensures { WritesRules table out.old out.new result }
 {
     if !valid_table(table) {
-        return WriteAnswer::Refused(Refusal::InvalidRecord);
+        return Err(Refusal::InvalidRecord);
     }
-    let rules = table.rules;
     let mut text = [0u8; RULES_BYTES];
-    let length = rule::put_rules(&mut text, table.count, rules);
-    write(&text[..length], out)
+    let mut put = Output {
+        bytes: &mut text,
+        at: 0,
+    };
+    rule::put_rules(&mut put, &table.rules[..table.count]);
+    let length = put.at;
+    write(&put.bytes[..length], out)
 }
 
 // The events of the run, closed or not. Refused with 11 or 15.
-pub fn write_cycle(run: Run, out: &mut [u8]) -> WriteAnswer
+pub fn write_cycle(run: Run, out: &mut [u8]) -> Result<usize, Refusal>
     ensures { WritesCycle run out.old out.new result }
 {
     if !valid_run(run) {
-        return WriteAnswer::Refused(Refusal::InvalidRecord);
+        return Err(Refusal::InvalidRecord);
     }
-    let events = run.events;
     let mut text = [0u8; CYCLE_BYTES];
-    let length = event::put_events(&mut text, run.count, events);
-    write(&text[..length], out)
+    let mut put = Output {
+        bytes: &mut text,
+        at: 0,
+    };
+    event::put_events(&mut put, &run.events[..run.count]);
+    let length = put.at;
+    write(&put.bytes[..length], out)
 }

@@ -9,10 +9,9 @@ use std::process::Command;
 
 const FORGER: &str = "use standings::totals::Totals;
 use tally::Counted;
-use tally::CountedAnswer;
 
 pub fn forged(totals: Totals) -> Counted {
-    Counted { answer: CountedAnswer::Are(totals) }
+    Counted { answer: Ok(totals) }
 }
 ";
 

@@ -1,8 +1,5 @@
 -- Refused if the buffer is shorter; else the text has room, and stands in front.
-use Prim.Native.Nat.{◌≤◌}
-use native.Mathlib.Omega.{arith}
-use lib.ListN.{length}
-use Rattle.buffer.proofs.Puts.{puts_front}
+use Rattle.std.proofs.Common.{refl, rules}
 use Rattle.buffer.proofs.Writes.{too_short, has_room}
 use Rattle.buffer.proofs.write.Goals as goal
 
@@ -11,7 +8,4 @@ returns-then-out-text c = too_short _ _ c.if-out-text.true
 
 pub returns : goal.returns
 returns c =
-    let a = c.args in
-    let room : length a.text.now ≤ length a.out.now = omega arith in
-    let p = puts_front room c.put_bytes-length.ensures in
-    has_room _ _ _ _ room p.1 p.0
+    has_room _ _ _ _ c.if-out-text.false refl (let h = c.copy_from_slice.ensures in search rules)

@@ -4,8 +4,5 @@ use lib.Seq.{length-take-le}
 use Rattle.buffer.proofs.Puts.{puts_within}
 use Rattle.files.proofs.print_unread.Goals as goal
 
-pub slice_bounds-line-end : goal.slice_bounds-line-end
-slice_bounds-line-end g c = puts_within c.put_unread-length.ensures
-
 pub slice_bounds-print-end : goal.slice_bounds-print-end
-slice_bounds-print-end g c = sym (length-take-le _ _ (puts_within c.put_unread-length.ensures))
+slice_bounds-print-end g c = sym (length-take-le _ _ (puts_within c.put_unread.ensures))

@@ -1,35 +1,29 @@
--- `line::find`: at each turn the first index in the whole list is that in what is left, as far on
--- as was passed.
-use native.Mathlib.Omega.{arith}
-use lib.ListN.{drop_of_length-le}
+-- `line::find`: `index_of` is the recursion of `position_or_len`, what `position` gives.
+use Rattle.std.proofs.Common.{◌≡◌, ℕ, ◌≤◌, Bool, true, false, cond, ltb, eqb, List, length, refl, ap, rules, tests, arith}
+use Rattle.std.specs.Prelude.{Some, None}
+use Rattle.std.proofs.lemmas.Iterator.{YieldsList-from_slice}
+use Rattle.std.proofs.lemmas.Iterator.Search.{position_from_yields_List}
+use Rattle.std.proofs.lemmas.List.Recursion.{is_position_or_len}
+use Rattle.std.specs.List.{position_or_len}
+use Rattle.std.specs.Option.{unwrap_or}
+use borrow.Author.Tests.{ltb-false}
 use Rattle.line.specs.Fields.{index_of}
-use Rattle.line.proofs.Fields.{index_here, index_next}
+use Rattle.line.proofs.Fields.{index_le}
 use Rattle.line.proofs.find.Goals as goal
 
-pub loop-i-init : goal.loop-i-init
-loop-i-init c = omega arith
+index_is : (byte : ℕ) (s : List ℕ) → index_of byte s ≡ position_or_len (λ b. eqb b byte) s
+unfolding index_of
+index_is byte s = is_position_or_len (index_of byte) (λ b. eqb b byte) refl (λ x xs. ap (cond (eqb x byte) 0) (omega arith)) s
 
-pub bounds-s-i : goal.bounds-s-i
-bounds-s-i c = omega arith
-
-pub returns-then-s-i : goal.returns-then-s-i
-returns-then-s-i c =
-    let a = c.args in
-    omega (arith, index_here a.byte a.s.now c.loop-i.i c.loop-i-test.true c.if-s-i.true)
-
-pub overflow_add-i : goal.overflow_add-i
-overflow_add-i c = omega arith
-
-pub loop-i-smaller : goal.loop-i-smaller
-loop-i-smaller c = omega arith
-
-pub loop-i-preserved : goal.loop-i-preserved
-loop-i-preserved c =
-    let a = c.args in
-    omega (arith, index_next a.byte a.s.now c.loop-i.i c.loop-i-test.true c.if-s-i.false)
+or_all : (q n : ℕ) → q ≤ n → unwrap_or (cond (ltb q n) (Some q) None) n ≡ q
+or_all q n h = go (ltb q n) refl
+  where
+    go : (t : Bool) → ltb q n ≡ t → unwrap_or (cond t (Some q) None) n ≡ q
+    go true e = refl
+    go false e = omega (arith, ltb-false q n e)
 
 pub returns : goal.returns
-unfolding index_of
 returns c =
     let a = c.args in
-    omega (arith, rw (drop_of_length-le a.s.now c.loop-i-test.false) at c.loop-i.invariant.1)
+    let p = position_from_yields_List (λ b. eqb b a.byte) _ _ c.position.result c.position.ensures.ran (YieldsList-from_slice a.s.now cc) (λ x b q k. search (rules, tests)) in
+    rw (c.unwrap_or.ensures, p, ← index_is a.byte a.s.now) (or_all (index_of a.byte a.s.now) (length a.s.now) (index_le a.byte a.s.now))

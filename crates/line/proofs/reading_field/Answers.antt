@@ -1,17 +1,13 @@
 -- `line::reading_field`: the reader's answer for the whole field is document 01's.
-use mathlib.Core.Path.{◌∙◌, ap}
+use mathlib.Core.Path.{◌∙◌}
 use Rattle.number.proofs.Answers.{answers}
-use Rattle.line.specs.Types.{FieldScan}
 use Rattle.line.specs.Fields.{before}
 use Rattle.line.specs.Values.{reading_field}
 use Rattle.line.specs.Scans.{field_scan, reading_by}
 use Rattle.line.proofs.reading_field.Goals as goal
 
-pub returns : goal.returns
+pub returns-clause-answer_value : goal.returns-clause-answer_value
 unfolding reading_field reading_by field_scan
-returns c =
-    let a = c.args in
-    let f = answers (before a.separator a.part.now) in record {
-      answer_value = c.reading_answer-answer.ensures ∙ rw (c.scan_field-scan.ensures, f.dashed, f.integer);
-      length_value = ap (λ (s : FieldScan). s.length) c.scan_field-scan.ensures;
-    }
+returns-clause-answer_value c =
+    let f = answers (before c.args.separator c.args.part.now) in
+    c.reading_answer.ensures ∙ rw (c.scan_field-scan.ensures, f.dashed, f.integer)

@@ -2,7 +2,7 @@
 -- is handed the whole field.
 use mathlib.Core.Path.{◌≡◌}
 use native.Mathlib.Omega.{arith}
-use lib.ListN.{drop_of_length-le}
+use lib.ListN.{length, drop_of_length-le}
 use Rattle.number.specs.Reader.{after}
 use Rattle.line.specs.Types.{Empty}
 use Rattle.line.specs.Fields.{index_of, before}
@@ -10,30 +10,15 @@ use Rattle.line.specs.Scans.{field_scan}
 use Rattle.line.proofs.Fields.{index_here, index_next, before_here, before_next}
 use Rattle.line.proofs.scan_field.Goals as goal
 
-pub loop-i-init : goal.loop-i-init
-loop-i-init c = (omega arith, omega arith, rw c.new-reader.ensures)
-
-pub bounds-part-i : goal.bounds-part-i
-bounds-part-i c = omega arith
-
-pub returns-then-part-i : goal.returns-then-part-i
+pub returns-then-byte-separator : goal.returns-then-byte-separator
 unfolding field_scan after
-returns-then-part-i c =
+returns-then-byte-separator c =
     let a = c.args in
     let o = c.loop-i in
     let h = c.loop-i-test.true in
-    let e : index_of a.separator a.part.now ≡ o.i = omega (arith, index_here a.separator a.part.now o.i h c.if-part-i.true) in
-    let n : o.reader ≡ after Empty (before a.separator a.part.now) = rw (before_here a.separator a.part.now o.i h c.if-part-i.true) at o.invariant.2 in
+    let e : index_of a.separator a.part.now ≡ o.i = omega (arith, index_here a.separator a.part.now o.i h c.if-byte-separator.true) in
+    let n : o.reader ≡ after Empty (before a.separator a.part.now) = rw (before_here a.separator a.part.now o.i h c.if-byte-separator.true) at o.invariant.2 in
     rw (e, n)
-
-pub bounds-part-i-in-loop-i : goal.bounds-part-i-in-loop-i
-bounds-part-i-in-loop-i c = omega arith
-
-pub overflow_add-i : goal.overflow_add-i
-overflow_add-i c = omega arith
-
-pub loop-i-smaller : goal.loop-i-smaller
-loop-i-smaller c = omega arith
 
 pub loop-i-preserved : goal.loop-i-preserved
 unfolding after
@@ -41,7 +26,7 @@ loop-i-preserved c =
     let a = c.args in
     let o = c.loop-i in
     let h = c.loop-i-test.true in
-    let more = c.if-part-i.false in (
+    let more = c.if-byte-separator.false in (
       omega arith,
       omega (arith, index_next a.separator a.part.now o.i h more),
       rw c.push-reader.ensures (rw (before_next a.separator a.part.now o.i h more) at o.invariant.2),
@@ -52,6 +37,6 @@ unfolding field_scan index_of before after
 returns c =
     let a = c.args in
     let o = c.loop-i in
-    let e : index_of a.separator a.part.now ≡ o.i = omega (arith, rw (drop_of_length-le a.part.now c.loop-i-test.false) at o.invariant.1) in
+    let e : index_of a.separator a.part.now ≡ length a.part.now = omega (arith, rw (drop_of_length-le a.part.now c.loop-i-test.false) at o.invariant.1) in
     let n : o.reader ≡ after Empty (before a.separator a.part.now) = rw (drop_of_length-le a.part.now c.loop-i-test.false) at o.invariant.2 in
     rw (e, n)

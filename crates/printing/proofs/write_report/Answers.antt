@@ -10,18 +10,15 @@ use Rattle.printing.proofs.write_report.Goals as goal
 pub returns-then-not-valid_run : goal.returns-then-not-valid_run
 returns-then-not-valid_run c = refuses (sym c.valid_run.ensures ∙ c.if-not-valid_run.true)
 
-pub put_report-length-requires : goal.put_report-length-requires
-put_report-length-requires c =
+pub put_report-requires : goal.put_report-requires
+put_report-requires c =
     let p = valid_parts _ (sym c.valid_run.ensures ∙ c.if-not-valid_run.false) in
     (p.rules_fit, p.events_fit)
 
-pub slice_bounds-text-end : goal.slice_bounds-text-end
-slice_bounds-text-end c = puts_within c.put_report-length.ensures
-
 pub slice_bounds-write-end : goal.slice_bounds-write-end
-slice_bounds-write-end c = sym (length-take-le _ _ (puts_within c.put_report-length.ensures))
+slice_bounds-write-end c = sym (length-take-le _ _ (puts_within c.put_report.ensures))
 
 pub returns : goal.returns
 returns c =
     let v = sym c.valid_run.ensures ∙ c.if-not-valid_run.false in
-    hands_on v (report_within _ v).most c.put_report-length.ensures c.write.ensures
+    hands_on v (report_within _ v).most c.put_report.ensures c.write.ensures

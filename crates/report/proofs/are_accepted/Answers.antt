@@ -1,25 +1,15 @@
--- By the reader's outcome.
-use mathlib.Core.Path.{◌≡◌}
-use mathlib.Core.Bool.{true, false}
+-- By the reader's answer.
+use mathlib.Core.Path.{◌≡◌, refl, ap, ◌∙◌}
 use mathlib.Core.List.{List}
-use Prim.Native.Nat.{ℕ}
-use Rattle.declare.specs.declared.Refusal.{Refusal}
-use Rattle.line.specs.declared.Outcome.{Outcome}
-use Rattle.line.specs.declared.Outcome.TheVariants.{Accepted, Refused}
-use Rattle.line.specs.Texts.{Records, is_all, records_read}
+use Rattle.std.specs.Prelude.{Result, Ok, Err, is_ok}
+use Rattle.line.specs.declared.LineRefusal.{LineRefusal}
+use Rattle.line.specs.Texts.{is_all, records_read}
 use Rattle.report.proofs.are_accepted.Goals as goal
 
-module _ {A : Type 0} (rs : List A) {o : Outcome} {x : Records A} where
-  accepted : o ≡ Accepted → records_read o rs ≡ x → true ≡ is_all x
-  unfolding records_read is_all
-  accepted e h = rw (← h, e)
+all_if_ok : {A B : Type 0} (list : B → List A) (r : Result B LineRefusal) → is_ok r ≡ is_all (records_read list r)
+unfolding records_read is_all
+all_if_ok list (Ok b) = refl
+all_if_ok list (Err cause) = refl
 
-  refused : {cause : Refusal} {line : ℕ} → o ≡ Refused cause line → records_read o rs ≡ x → false ≡ is_all x
-  unfolding records_read is_all
-  refused e h = rw (← h, e)
-
-pub returns-in-Accepted : goal.returns-in-Accepted
-returns-in-Accepted c = accepted _ c.in-Accepted.is c.read_rules-read.ensures.records
-
-pub returns-in-Refused : goal.returns-in-Refused
-returns-in-Refused c = refused _ c.in-Refused.is c.read_rules-read.ensures.records
+pub returns : goal.returns
+returns c = c.is_ok.ensures.value ∙ all_if_ok _ c.read_rules.result ∙ ap is_all c.read_rules.ensures.records

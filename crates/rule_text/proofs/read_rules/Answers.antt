@@ -1,71 +1,67 @@
 -- `read_rules`: the turns of `line/proofs/Turns`.
-use mathlib.Core.Path.{◌≡◌, ap}
+use mathlib.Core.Path.{sym, ◌∙◌, ap₂}
 use mathlib.Core.List.{List}
-use Prim.Native.Nat.{ℕ, ◌+◌, ◌-◌, ◌≤◌, ◌<◌}
 use native.Mathlib.Omega.{arith}
-use lib.ListN.{length, take, drop}
+use Prim.Native.Nat.{ℕ, ◌<◌}
+use lib.ListN.{take}
+use Rattle.std.proofs.lemmas.Result.{err_from_is_err_and}
 use Rattle.declare.specs.Limits.{most_rules}
-use Rattle.declare.specs.Rules.{no_rule}
-use Rattle.declare.specs.Refusals.{number_of}
-use Rattle.declare.specs.Answers.{Answer, accepted, ◌>>=◌}
-use Rattle.line.specs.Fields.{LF, index_of}
-use Rattle.line.specs.Texts.{line_of}
-use Rattle.line.proofs.Turns.{Turn, first_turn, turn_count, last_turn, InHand, turn_refused, turn_within, turn_less, turn_taken}
-use Rattle.rule_text.specs.Types.{Rule, RuleAnswer, Found}
-use Rattle.rule_text.specs.Rules.{rule_of, in_table, rule_after, rules_text_of}
-use Rattle.rule_text.specs.Reads.{rule_read}
-use Rattle.rule_text.proofs.Turns.{full, in_table_lem, answer_refused, answer_accepted}
-use borrow.Author.Rules.{rules}
+use Rattle.declare.specs.Rules.{rules_of}
+use Rattle.declare.specs.Slots.{table_of}
+use Rattle.declare.specs.Answers.{answer_of, ◌>>=◌}
+use Rattle.line.specs.Texts.{records_read}
+use Rattle.line.proofs.Texts.{line_refused, line_accepted}
+use Rattle.line.proofs.Turns.{first_turn, turn_count, last_turn, turn_refused, turn_less, turn_taken}
+use Rattle.rule_text.specs.Types.{Rule, Table}
+use Rattle.rule_text.specs.Rules.{rule_after, rules_text_of}
+use Rattle.rule_text.specs.Reads.{below}
+use Rattle.rule_text.proofs.Turns.{Passed, passed_lem, in_table_lem}
 use Rattle.rule_text.proofs.read_rules.Goals as goal
+use Rattle.rule_text.proofs.read_rules.Goals.{In_ok-rule}
 
-in_hand : {text : List ℕ} {count at : ℕ} {rules : List Rule} {line : Answer Rule} {next : ℕ} → Turn rule_of in_table most_rules no_rule text count at rules → at < length text → line ≡ line_of rule_of (take (length text - at) (drop at text)) → next ≡ index_of LF (take (length text - at) (drop at text)) + 1 → InHand rule_of in_table most_rules no_rule text count at rules line next
-in_hand turn more holds ends = record { turn = turn; more = more; found = (holds, ends) }
+pub loop-rest-init : goal.loop-rest-init
+loop-rest-init c = rw c.no_rule-rules.ensures (first_turn _ _ _ _ _)
 
-found : (x : RuleAnswer) (r : Rule) → x ≡ Found r → rule_read x ≡ accepted r
-unfolding rule_read
-found x r h = ap rule_read h
+pub returns-in_err-rule : goal.returns-in_err-rule
+unfolding rules_text_of rule_after below
+returns-in_err-rule c =
+    let t = c.loop-rest.invariant in
+    let o = c.in_table.ensures (take c.loop-rest.count c.loop-rest.rules) (sym (turn_count t)) in
+    let p = err_from_is_err_and c.from_residual.result c.from_residual.ensures.1 in
+    rw (p.1, p.2) (record {
+      records = line_refused rules_of c.in_table.result _ _ _ (sym c.in_err-rule.ensures) (λ n e. turn_refused t (sym c.loop-rest-test.ensures) c.rule_line-line.ensures.answer_value (sym o ∙ e));
+      slots = tt;
+    })
 
-pub loop-at-init : goal.loop-at-init
-loop-at-init c = rw c.no_rule-none.ensures (first_turn _ _ _ _ _)
+passed : (c : In_ok-rule) → Passed (take c.loop-rest.count c.loop-rest.rules) (answer_of c.rule_line-line.result.answer) c.in_ok-rule.rule
+passed c =
+    let o = c.in_table.ensures (take c.loop-rest.count c.loop-rest.rules) (sym (turn_count c.loop-rest.invariant)) in
+    passed_lem _ _ _ (sym o ∙ line_accepted c.in_table.result _ _ (sym c.in_ok-rule.ensures))
 
-pub returns-in-NoRule : goal.returns-in-NoRule
-unfolding rules_text_of rule_after rule_read ◌>>=◌
-returns-in-NoRule c =
-    let l = c.loop-at in
-    let k = in_hand l.invariant c.loop-at-test.true c.rule_line-line.ensures.answer_value c.rule_line-line.ensures.next_value in
-    answer_refused _ _ _ _ c.refused.ensures.outcome_value c.refused.ensures.table_value (turn_refused k _ (rw c.in-NoRule.is))
+pub bounds-rules-count : goal.bounds-rules-count
+bounds-rules-count c = omega (arith, (passed c).room, turn_count c.loop-rest.invariant)
 
-pub returns-then-count-ge-RULES : goal.returns-then-count-ge-RULES
-unfolding number_of rules_text_of rule_after ◌>>=◌
-returns-then-count-ge-RULES c =
-    let l = c.loop-at in
-    let k = in_hand l.invariant c.loop-at-test.true c.rule_line-line.ensures.answer_value c.rule_line-line.ensures.next_value in
-    let m : most_rules ≤ length (take l.count l.rules) = omega (arith, turn_count k.turn, c.if-count-ge-RULES.true) in
-    answer_refused _ _ _ _ c.refused-then-count-ge-RULES.ensures.outcome_value c.refused-then-count-ge-RULES.ensures.table_value (turn_refused k 8 (rw (found _ _ c.in-Found.is) (full (take l.count l.rules) c.in-Found.rule m)))
+pub loop-rest-preserved : goal.loop-rest-preserved
+unfolding ◌>>=◌
+loop-rest-preserved c =
+    let above = take c.loop-rest.count c.loop-rest.rules in
+    let t = c.loop-rest.invariant in
+    let r = c.in_ok-rule.rule in
+    let line = c.rule_line-line.ensures in
+    let o = c.in_table.ensures above (sym (turn_count t)) in
+    let p = passed_lem above _ r (sym o ∙ line_accepted c.in_table.result _ _ (sym c.in_ok-rule.ensures)) in
+    let m : c.loop-rest.count < most_rules = omega (arith, p.room, turn_count t) in
+    rw c.part_from-rest.ensures (turn_taken t (sym c.loop-rest-test.ensures) line.answer_value r _ (rw p.line (in_table_lem above r p.room)) m line.next_value)
 
-pub overflow_add-at : goal.overflow_add-at
-overflow_add-at c =
-    let l = c.loop-at in
-    let k = in_hand l.invariant c.loop-at-test.true c.rule_line-line.ensures.answer_value c.rule_line-line.ensures.next_value in
-    let h = turn_within k _ (found _ _ c.in-Found.is) in
-    search rules
+pub loop-rest-smaller : goal.loop-rest-smaller
+loop-rest-smaller c =
+    rw c.part_from-rest.ensures (turn_less c.loop-rest.rest.now _ (sym c.loop-rest-test.ensures) c.rule_line-line.ensures.next_value)
 
-pub loop-at-smaller : goal.loop-at-smaller
-loop-at-smaller c =
-    let l = c.loop-at in
-    let k = in_hand l.invariant c.loop-at-test.true c.rule_line-line.ensures.answer_value c.rule_line-line.ensures.next_value in
-    turn_less k _ (found _ _ c.in-Found.is)
-
-pub loop-at-preserved : goal.loop-at-preserved
-loop-at-preserved c =
-    let l = c.loop-at in
-    let k = in_hand l.invariant c.loop-at-test.true c.rule_line-line.ensures.answer_value c.rule_line-line.ensures.next_value in
-    let r = c.in-Found.rule in
-    let m : l.count < most_rules = omega (arith, c.if-count-ge-RULES.false) in
-    turn_taken k r (found _ r c.in-Found.is) (in_table_lem (take l.count l.rules) r (omega (arith, turn_count k.turn))) m
+slotted : ℕ → List Rule → Table
+slotted count rules = record { count = count; rules = rules }
 
 pub returns : goal.returns
-unfolding rules_text_of rule_after
+unfolding rules_text_of rule_after records_read rules_of table_of slotted
 returns c =
-    let t = c.loop-at.invariant in
-    answer_accepted _ _ _ t.filled (last_turn t c.loop-at-test.false)
+    let t = c.loop-rest.invariant in
+    record { records = sym (last_turn t (sym c.loop-rest-test.ensures)); slots = ap₂ slotted (sym (turn_count t)) t.filled.same }

@@ -11,17 +11,14 @@ use Rattle.writer.proofs.write_cycle.Goals as goal
 pub returns-then-not-valid_run : goal.returns-then-not-valid_run
 returns-then-not-valid_run c = refuses (sym c.valid_run.ensures ∙ c.if-not-valid_run.true)
 
-pub put_events-length-requires : goal.put_events-length-requires
-put_events-length-requires c = (valid_parts _ (sym c.valid_run.ensures ∙ c.if-not-valid_run.false)).events_fit
-
-pub slice_bounds-text-end : goal.slice_bounds-text-end
-slice_bounds-text-end c = puts_within c.put_events-length.ensures
+pub shared_ref_as_front-put_events : goal.shared_ref_as_front-put_events
+shared_ref_as_front-put_events c = (valid_parts _ (sym c.valid_run.ensures ∙ c.if-not-valid_run.false)).events_fit
 
 pub slice_bounds-write-end : goal.slice_bounds-write-end
-slice_bounds-write-end c = sym (length-take-le _ _ (puts_within c.put_events-length.ensures))
+slice_bounds-write-end c = sym (length-take-le _ _ (puts_within c.put_events.ensures))
 
 pub returns : goal.returns
 unfolding events_of
 returns c =
     let v = sym c.valid_run.ensures ∙ c.if-not-valid_run.false in
-    hands_on v (cycle_room _ v) c.put_events-length.ensures c.write.ensures
+    hands_on v (cycle_room _ v) c.put_events.ensures c.write.ensures

@@ -11,17 +11,14 @@ use Rattle.writer.proofs.write_rules.Goals as goal
 pub returns-then-not-valid_table : goal.returns-then-not-valid_table
 returns-then-not-valid_table c = refuses (sym c.valid_table.ensures ∙ c.if-not-valid_table.true)
 
-pub put_rules-length-requires : goal.put_rules-length-requires
-put_rules-length-requires c = rules_within _ (sym c.valid_table.ensures ∙ c.if-not-valid_table.false)
-
-pub slice_bounds-text-end : goal.slice_bounds-text-end
-slice_bounds-text-end c = puts_within c.put_rules-length.ensures
+pub shared_ref_as_front-put_rules : goal.shared_ref_as_front-put_rules
+shared_ref_as_front-put_rules c = rules_within _ (sym c.valid_table.ensures ∙ c.if-not-valid_table.false)
 
 pub slice_bounds-write-end : goal.slice_bounds-write-end
-slice_bounds-write-end c = sym (length-take-le _ _ (puts_within c.put_rules-length.ensures))
+slice_bounds-write-end c = sym (length-take-le _ _ (puts_within c.put_rules.ensures))
 
 pub returns : goal.returns
 unfolding rules_of
 returns c =
     let v = sym c.valid_table.ensures ∙ c.if-not-valid_table.false in
-    hands_on v (rules_room _ v) c.put_rules-length.ensures c.write.ensures
+    hands_on v (rules_room _ v) c.put_rules.ensures c.write.ensures

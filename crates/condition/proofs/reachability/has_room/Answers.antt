@@ -1,36 +1,14 @@
 -- The earliest time is that of the window's opening, or the horizon where that is later; the
 -- opening fits 32 bits or is past every event.
-use mathlib.Core.Path.{◌≡◌}
-use Prim.Native.Nat.{◌+◌, ◌-◌, max}
-use native.Mathlib.Omega.{arith}
-use borrow.Author.Tests.{le-leb, lt-leb}
-use Rattle.declare.specs.Events.{latest}
+use Rattle.std.proofs.Common.{arith}
+use Rattle.std.proofs.lemmas.Grind.{common_steps}
 use Rattle.declare.specs.Reachability.{soonest, has_room}
 use Rattle.condition.proofs.reachability.has_room.Goals as goal
 
-pub returns-then-time-from : goal.returns-then-time-from
+pub returns-in-None : goal.returns-in-None
 unfolding has_room soonest
-returns-then-time-from c =
-    let t = c.args.time in
-    let h = c.args.horizon in
-    let a = c.args.window.from in
-    rw (lt-leb (max h (t + a)) latest (omega arith))
+returns-in-None c = grind (arith, common_steps)
 
-pub returns-then-horizon-opening : goal.returns-then-horizon-opening
+pub returns-in-Some : goal.returns-in-Some
 unfolding has_room soonest
-returns-then-horizon-opening c =
-    let t = c.args.time in
-    let h = c.args.horizon in
-    let a = c.args.window.from in
-    let s : max h (t + a) ≡ t + a = omega arith in
-    let d : t + a - t ≡ a = omega arith in
-    rw (s, le-leb (t + a) latest (omega arith), d) c.within.ensures
-
-pub returns : goal.returns
-unfolding has_room soonest
-returns c =
-    let t = c.args.time in
-    let h = c.args.horizon in
-    let a = c.args.window.from in
-    let s : max h (t + a) ≡ h = omega arith in
-    rw (s, le-leb h latest (omega arith)) c.within-2.ensures
+returns-in-Some c = grind (arith, common_steps)

@@ -1,14 +1,10 @@
--- The range, then the tests.
-use mathlib.Core.Path.{ap}
-use mathlib.Core.Bool.{not}
+-- In the range, and every test.
+use Rattle.std.proofs.Common.{arith}
+use Rattle.std.proofs.lemmas.Grind.{common_steps}
 use Rattle.declare.specs.Reachability.{meets}
-use Rattle.condition.proofs.Four.{passed, failed}
+use Rattle.declare.proofs.Chains.{all_listed}
 use Rattle.condition.proofs.reachability.meets.Goals as goal
 
-pub returns-then-not-in_range : goal.returns-then-not-in_range
+pub returns-then-in_range : goal.returns-then-in_range
 unfolding meets
-returns-then-not-in_range c = rw (failed c.in_range.ensures (ap not c.if-not-in_range.true))
-
-pub returns : goal.returns
-unfolding meets
-returns c = rw (passed c.in_range.ensures (ap not c.if-not-in_range.false)) c.meets_tests.ensures
+returns-then-in_range c = grind (arith, common_steps, all_listed)

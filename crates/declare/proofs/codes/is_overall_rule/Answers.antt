@@ -32,14 +32,14 @@ pub returns-then-table-k : goal.returns-then-table-k
 returns-then-table-k c =
     let a = c.args in
     let full : length c.args.table.rules ≡ most_rules = search rules in
-    let p = c.less_one-p.ensures in
+    let p = c.saturating_sub-p.ensures in
     sym (no_rule_lem a.table a.k full (rw p at c.if-table-k.true))
 
-within : (c : Else-table-k) → (c.args.k ≤ c.args.table.count) × (c.less_one-p.result < 16)
+within : (c : Else-table-k) → (c.args.k ≤ c.args.table.count) × (c.saturating_sub-p.result < 16)
 within c =
     let a = c.args in
-    let n = neither (ltb a.table.count a.k) (leb 16 c.less_one-p.result) c.if-table-k.false in
-    (ltb-false a.table.count a.k n.0, leb-false 16 c.less_one-p.result n.1)
+    let n = neither (ltb a.table.count a.k) (leb 16 c.saturating_sub-p.result) c.if-table-k.false in
+    (ltb-false a.table.count a.k n.0, leb-false 16 c.saturating_sub-p.result n.1)
 
 pub offset_bounds-table-p : goal.offset_bounds-table-p
 offset_bounds-table-p c = let w = within c in search rules
@@ -51,4 +51,4 @@ pub returns : goal.returns
 unfolding is_overall_rule rule_at no_rule no_condition no_comparison
 returns c =
     let e = c.before.before in
-    rw (le-leb _ _ (within e).0) (c.is_overall.ensures ∙ ap (λ (p : ℕ). is_overall (get_or e.args.table.rules p no_rule).code) e.less_one-p.ensures)
+    rw (le-leb _ _ (within e).0) (c.is_overall.ensures ∙ ap (λ (p : ℕ). is_overall (get_or e.args.table.rules p no_rule).code) e.saturating_sub-p.ensures)

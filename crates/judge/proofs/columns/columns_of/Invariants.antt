@@ -1,12 +1,10 @@
 use mathlib.Core.Path.{◌≡◌}
-use Prim.Native.Nat.{◌-◌, ◌*◌, ◌≤◌}
+use Prim.Native.Nat.{◌*◌}
 use lib.ListN.{length}
 use Rattle.declare.specs.Limits.{most_events, readings}
-use Rattle.judge.specs.Columns.{Shows}
+use Rattle.judge.specs.Columns.{ShowsFirst}
+use Rattle.judge.proofs.ByColumn.{columns}
 use Rattle.judge.proofs.columns.columns_of.Given as goal
 
 abbrev pub invariant-loop-q : goal.invariant-loop-q
-invariant-loop-q l = (l.q ≤ l.n) × (length l.times ≡ most_events) × (length l.activities ≡ most_events) × (length l.numbers ≡ most_events * readings) × Shows l.times l.activities l.numbers l.events l.q
-
-abbrev pub decreases-loop-q : goal.decreases-loop-q
-decreases-loop-q l = l.n - l.q
+invariant-loop-q l = (length l.times ≡ most_events) × (length l.activities ≡ most_events) × (length l.numbers ≡ most_events * readings) × ShowsFirst (columns l.times l.activities l.numbers) l.events l.q

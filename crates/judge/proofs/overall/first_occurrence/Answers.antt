@@ -1,64 +1,40 @@
--- No event passed so far is an occurrence.
-use mathlib.Core.Path.{◌≡◌, sym, ap, ◌∙◌}
-use mathlib.Core.Bool.{false}
-use Prim.Native.Nat.{suc, zero-le}
-use native.Mathlib.Omega.{arith}
-use native.Mathlib.Numerals.{add-one}
-use lib.ListN.{length, take}
-use Rattle.declare.specs.Limits.{most_events}
-use Rattle.declare.specs.Lists.{first_up_to}
+-- The first place whose event is of the activity, meets the condition and is inside the window.
+use Rattle.std.proofs.Common.{◌≡◌, ℕ, suc, Bool, eqb, ◌&&◌, get_or, length, add-one, sym, zero-le, ◌∙◌, rules, arith, tests}
+use Rattle.std.specs.List.{position}
+use Rattle.std.proofs.lemmas.Iterator.{YieldsList-from_slice}
+use Rattle.std.proofs.lemmas.Iterator.Search.{position_from_yields_List}
+use Rattle.declare.specs.declared.Event.{Event}
+use Rattle.declare.specs.Conditions.{met}
 use Rattle.declare.specs.Events.{no_event}
 use Rattle.declare.specs.Verdicts.{occurs_at}
-use Rattle.judge.proofs.Occurrences.{first_begin, occurs_other, occurs_same, occurs_here, not_yet}
-use borrow.Author.Rules.{rules}
-use borrow.Author.Tests.{eq-eqb, ne_eqb}
+use Rattle.declare.specs.Suits.{within, between}
+use Rattle.judge.proofs.First.{passed, first_none, first_is, none_passes, first_passes}
+use Rattle.judge.proofs.Occurrences.{occurs_next}
 use Rattle.judge.proofs.overall.first_occurrence.Goals as goal
-use Rattle.judge.proofs.overall.first_occurrence.Goals.{After-meets_inside, Joined-events-p, then-events-p+else-meets_inside, else-events-p}
+use Rattle.judge.proofs.overall.first_occurrence.Goals.{After-position-place}
 
-pub loop-p-init : goal.loop-p-init
-loop-p-init c =
+abbrev occurring : After-position-place → Event → Bool
+occurring c e =
     let a = c.args in
-    let size : length a.events ≡ most_events = search rules in
-    (omega arith, omega arith, c.first_time-first.ensures, first_begin _)
+    eqb e.activity a.activity && (met a.rule.now.condition e e && within a.rule.now.window (between c.first_time-first.result e.time))
 
--- an event of the activity is one exactly if the function says so
-said : (c : After-meets_inside) → let l = c.loop-p in
-    let a = c.args in
-    occurs_at a.rule (take a.n a.events) a.activity (suc l.p) ≡ c.meets_inside.result
-unfolding no_event
-said c =
-    let l = c.loop-p in
-    let a = c.args in
-    occurs_same a.rule a.activity a.n a.events l.invariant.1 l.p (omega arith) l.invariant.2 (eq-eqb _ _ c.if-events-p.true) ∙ sym c.meets_inside.ensures
+placed : (c : After-position-place) → c.position-place.result ≡ position (occurring c) c.args.events.now
+placed c =
+    let es = c.args.events.now in
+    position_from_yields_List (occurring c) _ _ _ c.position-place.ensures.ran (YieldsList-from_slice es cc) (λ x b q k. search (rules, tests))
 
-pub returns-then-meets_inside : goal.returns-then-meets_inside
-returns-then-meets_inside c =
-    let l = c.loop-p in
-    let a = c.args in
-    rw add-one (occurs_here a.rule a.activity a.n a.events l.invariant.1 l.p (omega arith) l.invariant.3 (said c.before ∙ c.if-meets_inside.true), omega arith)
+pub returns-in-Some : goal.returns-in-Some
+returns-in-Some c =
+    let s = c.before in
+    let es = c.args.events.now in
+    let f = first_passes (occurring s) es no_event c.in-Some.p (sym c.in-Some.is ∙ placed s) in
+    let at : (k : ℕ) → occurs_at c.args.rule.now es c.args.activity (suc k) ≡ occurring s (get_or es k no_event) = λ k. occurs_next _ _ es k c.first_time-first.ensures in
+    (rw add-one (sym (first_is _ c.in-Some.p (length es) f.0 (passed _ (λ k l. at k ∙ f.2 k l)) (at c.in-Some.p ∙ f.1))), omega (arith, f.0))
 
--- an event that is passed is none
-passed : (c : Joined-events-p) → let l = c.loop-p in
-    let a = c.args in
-    occurs_at a.rule (take a.n a.events) a.activity (suc l.p) ≡ false
-unfolding no_event
-passed c =
-    let l = c.loop-p in
-    let a = c.args in
-    elim c.if-events-p.branch [
-      | then-events-p+else-meets_inside w ↦
-          occurs_same a.rule a.activity a.n a.events l.invariant.1 l.p (omega arith) l.invariant.2 (eq-eqb _ _ w.if-events-p.true) ∙ sym w.meets_inside.ensures ∙ w.if-meets_inside.false
-      | else-events-p w ↦ occurs_other a.rule a.activity a.n a.events l.invariant.1 l.p (omega arith) (ne_eqb _ _ w.if-events-p.false)
-    ]
-
-pub loop-p-preserved : goal.loop-p-preserved
-loop-p-preserved c =
-    let l = c.loop-p in
-    let a = c.args in
-    (omega arith, l.invariant.1, l.invariant.2, rw add-one (not_yet a.rule a.activity a.n a.events l.invariant.1 l.p l.invariant.3 (passed c)))
-
-pub returns : goal.returns
-returns c =
-    let l = c.loop-p in
-    let whole : l.p ≡ c.args.n = omega arith in
-    (sym (ap (first_up_to _) (sym whole) ∙ l.invariant.3), zero-le)
+pub returns-in-None : goal.returns-in-None
+returns-in-None c =
+    let s = c.before in
+    let es = c.args.events.now in
+    let f = none_passes (occurring s) es no_event (sym c.in-None.is ∙ placed s) in
+    let at : (k : ℕ) → occurs_at c.args.rule.now es c.args.activity (suc k) ≡ occurring s (get_or es k no_event) = λ k. occurs_next _ _ es k c.first_time-first.ensures in
+    (sym (first_none _ (length es) (passed _ (λ k l. at k ∙ f k l))), zero-le)

@@ -1,26 +1,23 @@
 -- The activity, then the window, then the tests.
-use mathlib.Core.Path.{ap}
-use mathlib.Core.Bool.{not}
-use mathlib.Core.Path.{◌∙◌}
-use borrow.Author.Tests.{eq-eqb, ne_eqb}
+use Rattle.std.proofs.Common.{◌≡◌, ◌∙◌, arith}
+use Rattle.std.proofs.lemmas.Grind.{common_steps}
+use Rattle.declare.specs.Lists.{all}
+use Rattle.declare.specs.Comparisons.{passes}
 use Rattle.condition.specs.Bound.{test_list, suits_bound}
-use Rattle.condition.proofs.Four.{passed, failed}
 use Rattle.judge.specs.Columns.{event_in}
-use Rattle.judge.proofs.ByColumn.{all_pass_in}
+use Rattle.judge.proofs.Checks.{places_low, checks_answer}
 use Rattle.judge.proofs.scan.suits_at.Goals as goal
 
-pub returns-then-activities-q : goal.returns-then-activities-q
-unfolding suits_bound event_in
-returns-then-activities-q c = rw (ne_eqb _ _ c.if-activities-q.true)
+pub all_pass_at-requires-clause-places : goal.all_pass_at-requires-clause-places
+all_pass_at-requires-clause-places c = rw c.requires.ready (places_low (test_list c.args.bound.now.tests))
 
-pub returns-then-not-within : goal.returns-then-not-within
+pub returns-then-within : goal.returns-then-within
 unfolding suits_bound event_in
-returns-then-not-within c = let same = c in
-    rw (eq-eqb _ _ same.if-activities-q.false, ← c.between.ensures, failed c.within.ensures (ap not c.if-not-within.true))
+returns-then-within c =
+    let a = c.args in
+    let e : c.all_pass_at.result ≡ all (passes (event_in a.columns.now a.q)) (test_list a.bound.now.tests) = rw c.requires.ready at c.all_pass_at.ensures ∙ checks_answer a.columns.now a.q (test_list a.bound.now.tests) in
+    grind (arith, common_steps)
 
-pub returns : goal.returns
+pub returns-else-within : goal.returns-else-within
 unfolding suits_bound event_in
-returns c = let inside = c in
-    let a = inside.args in
-    rw (eq-eqb _ _ inside.if-activities-q.false, ← inside.between.ensures, passed inside.within.ensures (ap not inside.if-not-within.false))
-    (c.all_pass_at.ensures ∙ all_pass_in a.times.now a.activities.now a.numbers.now a.q (test_list a.bound.tests))
+returns-else-within c = grind (arith, common_steps)

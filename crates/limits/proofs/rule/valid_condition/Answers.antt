@@ -1,17 +1,15 @@
--- No comparisons; else the two parts of the definition.
-use mathlib.Core.Path.{◌≡◌}
-use native.Mathlib.Omega.{arith}
-use Rattle.declare.specs.Lists.{all}
+-- The count; then the comparisons up to it.
+use Rattle.std.proofs.Common.{arith}
+use Rattle.std.proofs.lemmas.Grind.{common_steps}
 use Rattle.declare.specs.Conditions.{comparisons_of}
 use Rattle.declare.specs.Rules.{valid_condition}
+use Rattle.declare.proofs.Chains.{all_listed}
 use Rattle.limits.proofs.rule.valid_condition.Goals as goal
 
-pub returns-then-c-lt1 : goal.returns-then-c-lt1
-unfolding valid_condition comparisons_of all
-returns-then-c-lt1 c =
-    let none : c.args.c.count ≡ 0 = omega (arith, c.if-c-lt1.true) in
-    rw none
+pub returns-then-c-le-COMPARISONS : goal.returns-then-c-le-COMPARISONS
+unfolding valid_condition comparisons_of
+returns-then-c-le-COMPARISONS c = grind (arith, common_steps, all_listed)
 
-pub returns : goal.returns
+pub returns-else-c-le-COMPARISONS : goal.returns-else-c-le-COMPARISONS
 unfolding valid_condition
-returns c = rw c.valid_comparisons.ensures
+returns-else-c-le-COMPARISONS c = grind (arith, common_steps)

@@ -1,5 +1,6 @@
 -- Four fields, each with the byte that ends it.
-use Rattle.buffer.proofs.Puts.{puts_then}
+use Rattle.std.proofs.Common.{rules}
+use Rattle.buffer.proofs.Puts.{puts_then, puts_as}
 use Rattle.buffer.proofs.Lines.{puts_line}
 use Rattle.printing.specs.Lines.{line_fields}
 use Rattle.printing.proofs.activation.put_activation.Goals as goal
@@ -8,6 +9,6 @@ pub returns : goal.returns
 unfolding line_fields
 returns c =
     puts_line line_fields _
-    (puts_then c.put_number_field-at.ensures
-    (puts_then c.put_number_field-at-2.ensures
-    (puts_then (puts_then c.put_byte-at.ensures c.put_byte-at-2.ensures) c.put_number_field.ensures)))
+    (puts_then c.put_number_field.ensures
+    (puts_then c.put_number_field-2.ensures
+    (puts_then (puts_then c.put_byte.ensures c.put_byte-2.ensures) (puts_as (search (rules, c.from.ensures)) c.put_number_field-3.ensures))))

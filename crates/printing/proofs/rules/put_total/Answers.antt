@@ -9,7 +9,7 @@ pub returns : goal.returns
 unfolding line_fields total_of
 returns c =
     puts_line line_fields (total_of c.args.rule c.args.totals)
-    (puts_then c.put_bytes-at.ensures
-    (puts_then c.put_number_field-at.ensures
-    (puts_then c.put_number_field-at-2.ensures
-    (puts_then c.put_number_field-at-3.ensures c.put_number_field.ensures))))
+    (puts_then c.put_bytes.ensures
+    (puts_then c.put_number_field.ensures
+    (puts_then (rw c.from.ensures at c.put_number_field-2.ensures)
+    (puts_then (rw c.from-2.ensures at c.put_number_field-3.ensures) (rw c.from-3.ensures at c.put_number_field-4.ensures)))))

@@ -1,24 +1,38 @@
--- `rule::read_rule`: each field is read from what follows the one before it.
-use mathlib.Core.Path.{refl, sym, ◌∙◌}
-use Rattle.line.proofs.Lines.{passed}
-use Rattle.rule_text.proofs.Lines.{by_answers}
+-- `rule::read_rule`: the fields give what the definition gives, field by field.
+use Rattle.declare.specs.Answers.{answer_of, ◌>>=◌, ◌>>◌, require}
+use Rattle.line.specs.Fields.{following, fields_from}
+use Rattle.line.proofs.Lines.{told}
+use Rattle.rule_text.specs.Rules.{rule_of}
 use Rattle.rule_text.proofs.rule.read_rule.Goals as goal
 
+pub returns-in_err-code : goal.returns-in_err-code
+unfolding rule_of fields_from following require answer_of ◌>>=◌ ◌>>◌
+returns-in_err-code c = simp (told _ _ c.from_residual.ensures.1, ← c.byte_field-field.ensures.answer_value, c.in_err-code.was)
+
+pub returns-in_err-activation : goal.returns-in_err-activation
+unfolding rule_of fields_from following require answer_of ◌>>=◌ ◌>>◌
+returns-in_err-activation c = simp (told _ _ c.from_residual-in_err-activation.ensures.1, ← c.byte_field-field.ensures.answer_value, c.in_ok-code.was, ← c.byte_field-field.ensures.length_value, ← c.rest_of-part.ensures, ← c.byte_field-field-2.ensures.answer_value, c.in_err-activation.was)
+
+pub returns-in_err-target : goal.returns-in_err-target
+unfolding rule_of fields_from following require answer_of ◌>>=◌ ◌>>◌
+returns-in_err-target c = simp (told _ _ c.from_residual-in_err-target.ensures.1, ← c.byte_field-field.ensures.answer_value, c.in_ok-code.was, ← c.byte_field-field.ensures.length_value, ← c.rest_of-part.ensures, ← c.byte_field-field-2.ensures.answer_value, c.in_ok-activation.was, ← c.byte_field-field-2.ensures.length_value, ← c.rest_of-part-2.ensures, ← c.byte_field-field-3.ensures.answer_value, c.in_err-target.was)
+
+pub returns-in_err-from : goal.returns-in_err-from
+unfolding rule_of fields_from following require answer_of ◌>>=◌ ◌>>◌
+returns-in_err-from c = simp (told _ _ c.from_residual-in_err-from.ensures.1, ← c.byte_field-field.ensures.answer_value, c.in_ok-code.was, ← c.byte_field-field.ensures.length_value, ← c.rest_of-part.ensures, ← c.byte_field-field-2.ensures.answer_value, c.in_ok-activation.was, ← c.byte_field-field-2.ensures.length_value, ← c.rest_of-part-2.ensures, ← c.byte_field-field-3.ensures.answer_value, c.in_ok-target.was, ← c.byte_field-field-3.ensures.length_value, ← c.rest_of-part-3.ensures, ← c.number_field-field.ensures.answer_value, c.in_err-from.was)
+
+pub returns-in_err-until : goal.returns-in_err-until
+unfolding rule_of fields_from following require answer_of ◌>>=◌ ◌>>◌
+returns-in_err-until c = simp (told _ _ c.from_residual-in_err-until.ensures.1, ← c.byte_field-field.ensures.answer_value, c.in_ok-code.was, ← c.byte_field-field.ensures.length_value, ← c.rest_of-part.ensures, ← c.byte_field-field-2.ensures.answer_value, c.in_ok-activation.was, ← c.byte_field-field-2.ensures.length_value, ← c.rest_of-part-2.ensures, ← c.byte_field-field-3.ensures.answer_value, c.in_ok-target.was, ← c.byte_field-field-3.ensures.length_value, ← c.rest_of-part-3.ensures, ← c.number_field-field.ensures.answer_value, c.in_ok-from.was, ← c.number_field-field.ensures.length_value, ← c.rest_of-part-4.ensures, ← c.end_field-field.ensures.answer_value, c.in_err-until.was)
+
+pub returns-in_err-condition : goal.returns-in_err-condition
+unfolding rule_of fields_from following require answer_of ◌>>=◌ ◌>>◌
+returns-in_err-condition c = simp (told _ _ c.from_residual-in_err-condition.ensures.1, ← c.byte_field-field.ensures.answer_value, c.in_ok-code.was, ← c.byte_field-field.ensures.length_value, ← c.rest_of-part.ensures, ← c.byte_field-field-2.ensures.answer_value, c.in_ok-activation.was, ← c.byte_field-field-2.ensures.length_value, ← c.rest_of-part-2.ensures, ← c.byte_field-field-3.ensures.answer_value, c.in_ok-target.was, ← c.byte_field-field-3.ensures.length_value, ← c.rest_of-part-3.ensures, ← c.number_field-field.ensures.answer_value, c.in_ok-from.was, ← c.number_field-field.ensures.length_value, ← c.rest_of-part-4.ensures, ← c.end_field-field.ensures.answer_value, c.in_ok-until.was, ← c.end_field-field.ensures.length_value, ← c.rest_of-part-5.ensures, ← c.condition_field-field.ensures.answer_value, c.in_err-condition.was)
+
+pub returns-in_err-correlation : goal.returns-in_err-correlation
+unfolding rule_of fields_from following require answer_of ◌>>=◌ ◌>>◌
+returns-in_err-correlation c = simp (told _ _ c.from_residual-in_err-correlation.ensures.1, ← c.byte_field-field.ensures.answer_value, c.in_ok-code.was, ← c.byte_field-field.ensures.length_value, ← c.rest_of-part.ensures, ← c.byte_field-field-2.ensures.answer_value, c.in_ok-activation.was, ← c.byte_field-field-2.ensures.length_value, ← c.rest_of-part-2.ensures, ← c.byte_field-field-3.ensures.answer_value, c.in_ok-target.was, ← c.byte_field-field-3.ensures.length_value, ← c.rest_of-part-3.ensures, ← c.number_field-field.ensures.answer_value, c.in_ok-from.was, ← c.number_field-field.ensures.length_value, ← c.rest_of-part-4.ensures, ← c.end_field-field.ensures.answer_value, c.in_ok-until.was, ← c.end_field-field.ensures.length_value, ← c.rest_of-part-5.ensures, ← c.condition_field-field.ensures.answer_value, c.in_ok-condition.was, ← c.condition_field-field.ensures.length_value, ← c.rest_of-part-6.ensures, ← c.condition_field-field-2.ensures.answer_value, c.in_err-correlation.was)
+
 pub returns : goal.returns
-returns c =
-    let s = c.args.part.now in
-    let code = c.byte_field-field.ensures in
-    let activation = c.byte_field-field-2.ensures in
-    let target = c.byte_field-field-3.ensures in
-    let from = c.number_field-field.ensures in
-    let until = c.end_field-field.ensures in
-    let condition = c.condition_field-field.ensures in
-    let correlation = c.condition_field-field-2.ensures in
-    let part1 = c.rest_of-part.ensures ∙ passed 0 _ s _ refl code.length_value in
-    let part2 = c.rest_of-part-2.ensures ∙ passed 1 _ s _ part1 activation.length_value in
-    let part3 = c.rest_of-part-3.ensures ∙ passed 2 _ s _ part2 target.length_value in
-    let part4 = c.rest_of-part-4.ensures ∙ passed 3 _ s _ part3 from.length_value in
-    let part5 = c.rest_of-part-5.ensures ∙ passed 4 _ s _ part4 until.length_value in
-    let part6 = c.rest_of-part-6.ensures ∙ passed 5 _ s _ part5 condition.length_value in
-    rw (c.rule_of.ensures, c.head_of-head.ensures, code.answer_value, activation.answer_value, target.answer_value, from.answer_value, until.answer_value, condition.answer_value, correlation.answer_value, part1, part2, part3, part4, part5, part6)
-    (sym (by_answers s))
+unfolding rule_of fields_from following require answer_of ◌>>=◌ ◌>>◌
+returns c = simp (← c.byte_field-field.ensures.answer_value, c.in_ok-code.was, ← c.byte_field-field.ensures.length_value, ← c.rest_of-part.ensures, ← c.byte_field-field-2.ensures.answer_value, c.in_ok-activation.was, ← c.byte_field-field-2.ensures.length_value, ← c.rest_of-part-2.ensures, ← c.byte_field-field-3.ensures.answer_value, c.in_ok-target.was, ← c.byte_field-field-3.ensures.length_value, ← c.rest_of-part-3.ensures, ← c.number_field-field.ensures.answer_value, c.in_ok-from.was, ← c.number_field-field.ensures.length_value, ← c.rest_of-part-4.ensures, ← c.end_field-field.ensures.answer_value, c.in_ok-until.was, ← c.end_field-field.ensures.length_value, ← c.rest_of-part-5.ensures, ← c.condition_field-field.ensures.answer_value, c.in_ok-condition.was, ← c.condition_field-field.ensures.length_value, ← c.rest_of-part-6.ensures, ← c.condition_field-field-2.ensures.answer_value, c.in_ok-correlation.was) c.checked_rule.ensures

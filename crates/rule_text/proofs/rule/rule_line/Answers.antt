@@ -1,30 +1,14 @@
--- `rule::rule_line`: the checks before the fields, by the scan of the line.
-use mathlib.Core.Path.{sym, ◌∙◌, ap}
-use Prim.Native.Nat.{ℕ, ◌+◌}
-use native.Mathlib.Omega.{arith}
-use Rattle.declare.specs.Refusals.{number_of}
-use Rattle.line.proofs.Lines.{end_is, end_within, no_line_end, other_count, fields_of_lem}
+-- `rule::rule_line`: a line of seven fields gives what its fields give.
+use mathlib.Core.Path.{sym, ◌∙◌}
+use Rattle.std.proofs.Common.{rules}
+use Rattle.line.specs.Fields.{fields_from}
+use Rattle.line.proofs.Lines.{chained, line_checked}
 use Rattle.rule_text.specs.Rules.{rule_of}
-use Rattle.rule_text.specs.Reads.{rule_read}
 use Rattle.rule_text.proofs.Lines.{field_count}
 use Rattle.rule_text.proofs.rule.rule_line.Goals as goal
 
-pub overflow_add-next : goal.overflow_add-next
-overflow_add-next c = omega (arith, end_within _ _ c.scan_line-scan.ensures, c.well_formed)
-
-pub returns-then-rest-end : goal.returns-then-rest-end
-unfolding rule_read number_of
-returns-then-rest-end c =
-    let scan = c.scan_line-scan.ensures in
-    record { answer_value = sym (no_line_end _ _ scan rule_of c.if-rest-end.true); next_value = ap (λ (n : ℕ). n + 1) (end_is _ _ scan) }
-
-pub returns-then-scan-ne-TABS : goal.returns-then-scan-ne-TABS
-unfolding rule_read number_of
-returns-then-scan-ne-TABS c =
-    let scan = c.scan_line-scan.ensures in
-    record { answer_value = sym (other_count _ _ scan rule_of c.if-rest-end.false 6 field_count c.if-scan-ne-TABS.true); next_value = ap (λ (n : ℕ). n + 1) (end_is _ _ scan) }
-
-pub returns : goal.returns
-returns c =
-    let scan = c.scan_line-scan.ensures in
-    record { answer_value = c.read_rule-answer.ensures ∙ sym (fields_of_lem _ _ scan rule_of c.if-rest-end.false 6 c.if-scan-ne-TABS.false); next_value = ap (λ (n : ℕ). n + 1) (end_is _ _ scan) }
+pub returns-clause-answer_value : goal.returns-clause-answer_value
+returns-clause-answer_value c =
+    let s = c.args.rest.now in
+    chained c.check_line-line.result.answer c.and_then.result (rule_of (fields_from 6 s)) (search rules)
+    ∙ rw c.check_line-line.ensures.answer_value (sym (line_checked 6 rule_of field_count s))

@@ -1,10 +1,9 @@
 -- `window::end_field`: the reader's answer for the whole field is document 01's.
-use mathlib.Core.Path.{◌∙◌, ap}
+use mathlib.Core.Path.{◌∙◌}
 use native.Mathlib.Omega.{arith}
 use Rattle.declare.specs.Events.{latest}
 use Rattle.number.specs.Reader.{bound}
 use Rattle.number.proofs.Answers.{answers}
-use Rattle.line.specs.declared.FieldScan.{FieldScan}
 use Rattle.line.specs.Fields.{tab, before}
 use Rattle.line.specs.Values.{number_field}
 use Rattle.line.specs.Scans.{field_scan}
@@ -12,11 +11,8 @@ use Rattle.rule_text.specs.Rules.{end_field}
 use Rattle.rule_text.specs.Reads.{end_by}
 use Rattle.rule_text.proofs.window.end_field.Goals as goal
 
-pub returns : goal.returns
+pub returns-clause-answer_value : goal.returns-clause-answer_value
 unfolding end_field end_by number_field field_scan bound
-returns c =
+returns-clause-answer_value c =
     let f = answers (before tab c.args.part.now) in
-    record {
-      answer_value = c.end_answer-answer.ensures ∙ rw (c.scan_field-scan.ensures, f.dashed, f.natural 1 latest (omega arith));
-      length_value = ap (λ (s : FieldScan). s.length) c.scan_field-scan.ensures;
-    }
+    c.end_answer.ensures ∙ rw (c.scan_field-scan.ensures, f.dashed, f.natural 1 latest (omega arith))

@@ -27,32 +27,25 @@ use Rattle.run.specs.Close.{closed_cells, IdlePast}
 use Rattle.run.proofs.Closing.{cell_unused, cell_idle, cell_closed}
 use Rattle.run.proofs.close.closed_cells.Invariants.{Closed}
 use Rattle.run.proofs.close.closed_cells.Goals as goal
-use Rattle.run.proofs.close.closed_cells.Goals.{Start}
-
-full : (c : Start) → length c.args.cells ≡ places
-full c = search rules
-
--- one slot a rule
-slots : (c : Start) → length c.args.totals ≡ most_rules
-slots c = search rules
 
 pub loop-j-init : goal.loop-j-init
 loop-j-init c =
-    (omega arith, λ n few past. record { cells = λ es. swept_none _ _; totals = counting_none _ _ _ (full c) (slots c) })
+    let size : length c.args.cells ≡ places = search rules in
+    let slots : length c.args.totals ≡ most_rules = search rules in
+    (omega arith, λ n few past. record { cells = λ es. swept_none _ _; totals = counting_none _ _ _ size slots })
 
 pub loop-j-preserved-then-is_idle : goal.loop-j-preserved-then-is_idle
 loop-j-preserved-then-is_idle c =
     let l = c.loop-j in
-    let start = c.before.before.before.before.before in
     let s : Standing = (get_or l.cells l.j idle_cell).standing in
-    let idle : s ≡ Idle = only_idle s (sym c.is_idle.ensures ∙ c.if-is_idle.true) in
-    let low : l.j < places = omega (arith, start.requires) in
-    let size = full start in (
+    let idle : s ≡ Idle = only_idle s (sym c.if-is_idle.ensures) in
+    let low : l.j < places = omega (arith, c.requires) in
+    let size : length c.args.cells ≡ places = search rules in (
       omega arith,
       λ n few past.
           let done = l.invariant.1 n few past in
           record {
-            cells = λ es. swept_kept (done.cells es) idle_cell (omega (arith, low, size)) (cell_idle start.args.table es n l.j _ idle);
+            cells = λ es. swept_kept (done.cells es) idle_cell (omega (arith, low, size)) (cell_idle c.args.table es n l.j _ idle);
             totals = counting_idle done.totals few low idle;
           },
     )
@@ -71,15 +64,13 @@ pub loop-j-preserved : goal.loop-j-preserved
 unfolding no_rule no_condition no_comparison
 loop-j-preserved c =
     let l = c.loop-j in
-    let start = c.before.before.before.before.before.before.before.before.before in
-    let a = start.args in
-    let active = sym c.is_idle.ensures ∙ c.if-is_idle.false in
-    let low : l.j < places = omega (arith, start.requires) in
-    let size = full start in (
+    let a = c.args in
+    let low : l.j < places = omega (arith, c.requires) in
+    let size : length a.cells ≡ places = search rules in (
       omega arith,
       λ n few past.
           let done = l.invariant.1 n few past in
-          let p = used a.table a.cells _ _ _ l.j n [] done past (omega arith) active in
+          let p = used a.table a.cells _ _ _ l.j n [] done past (omega arith) (sym c.if-is_idle.ensures) in
           record {
             cells = λ es. swept_again (done.cells es) idle_cell (omega (arith, low, size)) (cell_closed a.table es n l.j _ (omega arith) p c.closed-next.ensures);
             totals = counting_set done.totals few low p _ c.with_standing.ensures;
@@ -90,11 +81,11 @@ pub returns : goal.returns
 unfolding closed_cells changed
 returns c =
     let l = c.loop-j in
-    let start = c.before.before in
-    let size = full start in
-    let rules = start.args.table.count in
+    let size : length c.args.cells ≡ places = search rules in
+    let slots : length c.args.totals ≡ most_rules = search rules in
+    let rules = c.args.table.count in
     record {
       cells =
-          λ es n few past. swept_all (swept_skip ((l.invariant.1 n few past).cells es) places (omega (arith, start.requires)) (λ i a b x. cell_unused _ es _ i x (rules_rest _ _ i (omega arith)))) (omega (arith, size));
-      totals = λ n few past. counting_all (l.invariant.1 n few past).totals few rules (slots start) (omega (arith, start.requires));
+          λ es n few past. swept_all (swept_skip ((l.invariant.1 n few past).cells es) places (omega (arith, c.requires)) (λ i a b x. cell_unused _ es _ i x (rules_rest _ _ i (omega arith)))) (omega (arith, size));
+      totals = λ n few past. counting_all (l.invariant.1 n few past).totals few rules slots (omega (arith, c.requires));
     }

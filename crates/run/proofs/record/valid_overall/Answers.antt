@@ -1,70 +1,32 @@
--- No rule that was passed is invalid: one about the cycle was looked at, any other is not read.
-use mathlib.Core.Path.{◌≡◌, refl, sym, ap, ◌∙◌}
-use mathlib.Core.Bool.{Bool, true, false, not}
-use mathlib.Core.List.{List}
-use Prim.Native.Nat.{ℕ, ◌<◌}
-use native.Mathlib.Omega.{arith}
-use borrow.Author.Tests.{not-false}
-use lib.ListN.{get_or}
-use Rattle.declare.specs.declared.Table.{Table}
-use Rattle.declare.specs.Lists.{all_below}
+-- The chain over the rules in use, beside their cells.
+use Rattle.std.proofs.Common.{rules, arith, ◌≡◌, ◌∙◌, Bool, not, ◌||◌, length, take}
+use Rattle.std.proofs.lemmas.Iterator.{YieldsList-from_slice, YieldsList-from_zip}
+use Rattle.std.proofs.lemmas.Iterator.Consumers.{YieldsList-at}
+use Rattle.std.proofs.lemmas.Iterator.Search.{all_from_yields_List}
+use borrow.Author.Tests.{tests}
+use Rattle.std.specs.List.{list_all, zip}
+use Rattle.declare.specs.declared.Rule.{Rule}
 use Rattle.declare.specs.Overall.{is_overall}
-use Rattle.declare.specs.Rules.{no_comparison, no_condition, no_rule}
-use Rattle.declare.proofs.Booleans.{fails}
-use Rattle.declare.proofs.Sweeps.{all_none, all_again}
-use Rattle.declare.proofs.Lists.{all_each}
+use Rattle.declare.specs.Rules.{no_rule}
+use Rattle.declare.proofs.Lists.{all_same}
 use Rattle.standings.specs.declared.Cell.{Cell}
 use Rattle.standings.specs.Places.{idle_cell}
-use Rattle.run.specs.Records.{valid_zero, valid_overall}
 use Rattle.standings.proofs.Places.{zero_check, zero_cell}
-use Rattle.run.proofs.record.valid_overall.Invariants.{valid}
+use Rattle.run.specs.Records.{valid_zero, valid_overall}
+use Rattle.run.proofs.Checks.{zipped_below}
 use Rattle.run.proofs.record.valid_overall.Goals as goal
-
-module _ (closed : Bool) (t : Table) (count : ℕ) (overall : List Cell) (k : ℕ) (low : k < t.count) where
-  abbrev code : ℕ
-  code = (get_or t.rules k no_rule).code
-
-  other : is_overall code ≡ false → true ≡ valid closed t count overall k
-  other o = rw (zero_check t k low, o) refl
-
-  looked : is_overall code ≡ true → {v : Bool} → v ≡ valid_zero closed count (get_or overall k idle_cell).standing → v ≡ valid closed t count overall k
-  looked o e = rw (zero_check t k low, o, zero_cell overall k) e
-
-  one_invalid : valid closed t count overall k ≡ false → false ≡ valid_overall closed t count overall
-  unfolding valid_overall
-  one_invalid e =
-      sym (fails (all_below (valid closed t count overall) t.count) (λ a. all_each (valid closed t count overall) t.count a k low) e)
-
-pub loop-k-init : goal.loop-k-init
-loop-k-init c = (omega arith, all_none _)
-
-pub loop-k-preserved-then-not-is_overall : goal.loop-k-preserved-then-not-is_overall
-unfolding no_rule no_condition no_comparison
-loop-k-preserved-then-not-is_overall c =
-    let l = c.loop-k in
-    let a = c.args in
-    (omega arith, all_again _ _ l.invariant.1 (other a.closed a.table a.count a.overall l.k (omega arith) (sym c.is_overall.ensures ∙ c.if-not-is_overall.true)))
-
-pub returns-then-not-valid_zero : goal.returns-then-not-valid_zero
-unfolding no_rule no_condition no_comparison
-returns-then-not-valid_zero c =
-    let l = c.loop-k in
-    let a = c.args in
-    let o = sym c.is_overall.ensures ∙ c.if-not-is_overall.false in
-    one_invalid a.closed a.table a.count a.overall l.k (omega arith)
-    (sym (looked a.closed a.table a.count a.overall l.k (omega arith) o c.valid_zero.ensures) ∙ c.if-not-valid_zero.true)
-
-pub loop-k-preserved : goal.loop-k-preserved
-unfolding no_rule no_condition no_comparison
-loop-k-preserved c =
-    let l = c.loop-k in
-    let a = c.args in
-    let o = sym c.is_overall.ensures ∙ c.if-not-is_overall.false in
-    let holds = sym (not-false c.valid_zero.result (ap not c.if-not-valid_zero.false)) in
-    (omega arith, all_again _ _ l.invariant.1 (holds ∙ looked a.closed a.table a.count a.overall l.k (omega arith) o c.valid_zero.ensures))
 
 pub returns : goal.returns
 unfolding valid_overall
 returns c =
-    let whole : c.loop-k.k ≡ c.args.table.count = omega arith in
-    c.loop-k.invariant.1 ∙ ap (all_below _) whole
+    let a = c.args in
+    let rules16 : length a.table.rules ≡ 16 = search rules in
+    let cells16 : length a.overall ≡ 16 = search rules in
+    let test : Rule × Cell → Bool = λ p. not (is_overall p.0.code) || valid_zero a.closed a.count p.1.standing in
+    let chain : c.all.result ≡ list_all test (zip (take a.table.count a.table.rules) a.overall) =
+    all_from_yields_List test c.all.new.self _ _ c.all.ensures.ran
+    (YieldsList-from_zip (YieldsList-at c.zip.ensures.first (YieldsList-from_slice (take a.table.count a.table.rules) (cc))) (YieldsList-from_slice {s = c.zip.result.b} a.overall c.zip.ensures.second.0))
+    (λ x b q k. search (rules, tests)) in
+    chain
+    ∙ zipped_below test a.table.count a.table.rules a.overall no_rule idle_cell (omega (arith, c.requires)) (omega (arith, c.requires))
+    ∙ all_same _ _ a.table.count (λ k low. rw (zero_check a.table k low, zero_cell a.overall k))

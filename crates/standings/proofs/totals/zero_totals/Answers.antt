@@ -25,7 +25,7 @@ loop-k-preserved c =
     let few : l.k < most_rules = omega (arith, rules.ensures) in (
       omega arith,
       swept_again l.invariant.1 no_totals (omega (arith, few, full))
-          (rw (lt-ltb l.k a.table.count low) (c.with_standing.ensures ∙ ap₂ with_standing c.no_totals.ensures (c.zero_of.ensures ∙ zero_is a.table a.overall l.k low))),
+          (rw (lt-ltb l.k a.table.count low) (c.with_standing.ensures ∙ ap₂ with_standing c.no_totals.ensures (c.zero_of-zero.ensures ∙ zero_is a.table a.overall l.k low))),
     )
 
 pub returns : goal.returns

@@ -1,66 +1,57 @@
--- By the count: each comparison but the first has a comma before it.
-use mathlib.Core.Path.{◌≡◌, sym}
-use mathlib.Core.List.{[], ◌∷◌, ◌++◌, append-nil}
-use Prim.Native.Nat.{◌≤◌, ◌<◌}
-use native.Mathlib.Omega.{arith}
+-- The first comparison, then each other behind a comma.
+use Rattle.std.proofs.Common.{◌≡◌, refl, sym, ◌∙◌, ap, ℕ, zero, suc, ◌+◌, ◌-◌, ◌<◌, min, List, [], ◌∷◌, ◌++◌, map, length, take, get_or, append_assoc, add-one, arith}
+use mathlib.Core.List.{append-nil}
 use lib.Seq.{take_all}
+use Rattle.std.proofs.lemmas.List.{take_min}
+use Rattle.declare.specs.declared.Comparison.{Comparison}
 use Rattle.declare.specs.declared.Condition.{Condition}
 use Rattle.declare.specs.Conditions.{comparisons_of}
-use Rattle.number.specs.Number.{hyphen}
 use Rattle.line.specs.Fields.{each_after, joined}
 use Rattle.rule_text.specs.Conditions.{comma}
 use Rattle.rule_text.specs.Written.{comparison_text, comparisons_text, condition_text}
+use Rattle.buffer.specs.Puts.{Puts}
 use Rattle.buffer.proofs.Puts.{puts_then, puts_as}
 use Rattle.writer.proofs.conditions.put_condition.Goals as goal
 
-module _ (c : Condition) where
-  none : c.count < 1 → hyphen ∷ [] ≡ condition_text c
-  unfolding condition_text comparisons_text comparisons_of
-  none h =
-      let e : c.count ≡ 0 = omega arith in
-      rw e
+-- one comparison more
+each_more : (cs : List Comparison) (k : ℕ) (none : Comparison) → k < length cs → each_after comma (map comparison_text (take (suc k) cs)) ≡ each_after comma (map comparison_text (take k cs)) ++ (comma ∷ comparison_text (get_or cs k none))
+unfolding each_after
+each_more [] k none h = absurd (omega arith)
+each_more (c ∷ cs) zero none h = ap (λ (s : List ℕ). comma ∷ s) (append-nil (comparison_text c))
+each_more (c ∷ cs) (suc k) none h =
+    rw (each_more cs k none (omega arith)) (ap (λ (s : List ℕ). comma ∷ s) (sym (append_assoc (comparison_text c) _ _)))
 
-  one : 1 ≤ c.count → c.count < 2 → comparison_text c.first ≡ condition_text c
-  unfolding condition_text comparisons_text comparisons_of joined each_after
-  one l h =
-      let e : c.count ≡ 1 = omega arith in
-      rw e (sym (append-nil (comparison_text c.first)))
+pub returns-then-c-eq0 : goal.returns-then-c-eq0
+unfolding condition_text comparisons_text comparisons_of
+returns-then-c-eq0 c = puts_as (rw c.if-c-eq0.true refl) c.put_byte.ensures
 
-  two : 2 ≤ c.count → c.count < 3 → comparison_text c.first ++ (comma ∷ comparison_text c.second) ≡ condition_text c
-  unfolding condition_text comparisons_text comparisons_of joined each_after
-  two l h =
-      let e : c.count ≡ 2 = omega arith in
-      rw (e, append-nil (comparison_text c.second))
+next_put : {l m n : List ℕ} {at p q : ℕ} (first : List ℕ) (cs : List Comparison) (k : ℕ) (none : Comparison) → k < length cs → Puts (first ++ each_after comma (map comparison_text (take k cs))) l at m p → Puts (comma ∷ comparison_text (get_or cs k none)) m p n q → Puts (first ++ each_after comma (map comparison_text (take (k + 1) cs))) l at n q
+next_put first cs k none h a b =
+    let before = each_after comma (map comparison_text (take k cs)) in
+    let next = comma ∷ comparison_text (get_or cs k none) in
+    rw (add-one k, each_more cs k none h) (puts_as (append_assoc first before next) (puts_then a b))
 
-  three : 3 ≤ c.count → c.count < 4 → comparison_text c.first ++ (comma ∷ (comparison_text c.second ++ (comma ∷ comparison_text c.third))) ≡ condition_text c
-  unfolding condition_text comparisons_text comparisons_of joined each_after
-  three l h =
-      let e : c.count ≡ 3 = omega arith in
-      rw (e, append-nil (comparison_text c.third))
+-- the first, and those behind it up to the count
+all_put : (c : Condition) (n : ℕ) → (c.count ≡ 0 → ⊥) → n ≡ min (c.count - 1) 3 → comparison_text c.first ++ each_after comma (map comparison_text (take n (c.second ∷ c.third ∷ c.fourth ∷ []))) ≡ condition_text c
+unfolding condition_text comparisons_text comparisons_of joined
+all_put c n some e = go c.count refl
+  where
+    go : (count : ℕ) → c.count ≡ count → comparison_text c.first ++ each_after comma (map comparison_text (take n (c.second ∷ c.third ∷ c.fourth ∷ []))) ≡ condition_text c
+    go zero q = absurd (some q)
+    go (suc m) q =
+        let others : n ≡ min m 3 = omega (arith, e, q) in
+        rw (others, take_min m (c.second ∷ c.third ∷ c.fourth ∷ []), q) refl
 
-  four : 4 ≤ c.count → comparison_text c.first ++ (comma ∷ (comparison_text c.second ++ (comma ∷ (comparison_text c.third ++ (comma ∷ comparison_text c.fourth))))) ≡ condition_text c
-  unfolding condition_text comparisons_text comparisons_of joined each_after
-  four l =
-      rw (take_all c.count (c.first ∷ c.second ∷ c.third ∷ c.fourth ∷ []) l, append-nil (comparison_text c.fourth))
+pub loop-next-init : goal.loop-next-init
+unfolding each_after
+loop-next-init c = puts_as (sym (append-nil _)) c.put_comparison.ensures
 
-pub returns-then-count-lt1 : goal.returns-then-count-lt1
-returns-then-count-lt1 c =
-    puts_as (none _ c.if-count-lt1.true) c.put_byte.ensures
-
-pub returns-then-count-lt2 : goal.returns-then-count-lt2
-returns-then-count-lt2 c =
-    puts_as (one _ c.if-count-lt1.false c.if-count-lt2.true) c.put_comparison-at.ensures
-
-pub returns-then-count-lt3 : goal.returns-then-count-lt3
-returns-then-count-lt3 c =
-    puts_as (two _ c.if-count-lt2.false c.if-count-lt3.true) (puts_then c.put_comparison-at.ensures c.put_next-at.ensures)
-
-pub returns-then-count-lt4 : goal.returns-then-count-lt4
-returns-then-count-lt4 c =
-    puts_as (three _ c.if-count-lt3.false c.if-count-lt4.true)
-    (puts_then c.put_comparison-at.ensures (puts_then c.put_next-at.ensures c.put_next-at-2.ensures))
+pub loop-next-preserved : goal.loop-next-preserved
+loop-next-preserved c =
+    let l = c.loop-next in
+    next_put _ _ l.next-index _ c.loop-next-test.true l.invariant c.put_next.ensures
 
 pub returns : goal.returns
 returns c =
-    puts_as (four _ c.if-count-lt4.false)
-    (puts_then c.put_comparison-at.ensures (puts_then c.put_next-at.ensures (puts_then c.put_next-at-2.ensures c.put_next.ensures)))
+    let l = c.loop-next in
+    puts_as (all_put c.args.c c.min-count.result c.if-c-eq0.false (c.min-count.ensures ∙ ap (λ (n : ℕ). min n 3) c.from.ensures)) (rw (take_all l.next-index _ c.loop-next-test.false) at l.invariant)

@@ -3,5 +3,4 @@ use Rattle.buffer.proofs.Puts.{puts_then}
 use Rattle.writer.proofs.conditions.put_next.Goals as goal
 
 pub returns : goal.returns
-returns c =
-    puts_then c.put_byte-at.ensures c.put_comparison.ensures
+returns c = puts_then c.put_byte.ensures c.put_comparison.ensures

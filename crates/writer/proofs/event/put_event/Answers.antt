@@ -8,7 +8,7 @@ pub returns : goal.returns
 unfolding event_fields
 returns c =
     puts_line event_fields c.args.e
-    (puts_then c.put_number_field-at.ensures
-    (puts_then c.put_byte_field-at.ensures
-    (puts_then c.put_reading_field-at.ensures
-    (puts_then c.put_reading_field-at-2.ensures (puts_then c.put_reading_field-at-3.ensures c.put_reading_field.ensures)))))
+    (puts_then c.put_number_field.ensures
+    (puts_then c.put_byte_field.ensures
+    (puts_then c.put_reading_field.ensures
+    (puts_then c.put_reading_field-2.ensures (puts_then c.put_reading_field-3.ensures c.put_reading_field-4.ensures)))))

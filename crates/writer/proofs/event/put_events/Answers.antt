@@ -1,24 +1,20 @@
 -- Line by line.
-use mathlib.Core.Path.{◌≡◌}
-use native.Mathlib.Omega.{arith}
+use lib.Seq.{take_all}
 use Rattle.line.specs.Texts.{written_text}
 use Rattle.cycle_text.specs.Written.{event_fields, events_text}
 use Rattle.buffer.proofs.Puts.{puts_none}
 use Rattle.buffer.proofs.Lines.{puts_more}
 use Rattle.writer.proofs.event.put_events.Goals as goal
 
-pub loop-p-init : goal.loop-p-init
+pub loop-event-init : goal.loop-event-init
 unfolding events_text written_text
-loop-p-init c = (omega arith, puts_none _ _)
+loop-event-init c = puts_none _ _
 
-pub loop-p-preserved : goal.loop-p-preserved
-unfolding events_text written_text
-loop-p-preserved c =
-    let loop = c.loop-p in
-    (omega arith, puts_more event_fields _ loop.p _ (omega arith) loop.invariant.1 c.put_event-at.ensures)
+pub loop-event-preserved : goal.loop-event-preserved
+unfolding events_text
+loop-event-preserved c =
+    puts_more event_fields _ c.loop-event.event-index _ c.loop-event-test.true c.loop-event.invariant c.put_event.ensures
 
 pub returns : goal.returns
 returns c =
-    let loop = c.loop-p in
-    let all : loop.p ≡ c.args.count = omega arith in
-    rw (← all) loop.invariant.1
+    rw (take_all c.loop-event.event-index c.args.events.now c.loop-event-test.false) at c.loop-event.invariant

@@ -1,11 +1,7 @@
-use Prim.Native.Nat.{◌-◌, ◌≤◌}
-use lib.ListN.{take}
+use Rattle.std.proofs.Common.{take}
 use Rattle.cycle_text.specs.Written.{events_text}
-use Rattle.buffer.specs.Puts.{Puts}
+use Rattle.buffer.specs.Puts.{Put}
 use Rattle.writer.proofs.event.put_events.Given as goal
 
-abbrev pub invariant-loop-p : goal.invariant-loop-p
-invariant-loop-p l = (l.p ≤ l.count) × Puts (events_text (take l.p l.events)) l.initial.out 0 l.out l.at
-
-abbrev pub decreases-loop-p : goal.decreases-loop-p
-decreases-loop-p l = l.count - l.p
+abbrev pub invariant-loop-event : goal.invariant-loop-event
+invariant-loop-event l = Put (events_text (take l.event-index l.events)) l.initial.out l.out

@@ -2,12 +2,10 @@
 use Rattle.rule_text.specs.Written.{end_text}
 use Rattle.writer.proofs.rule.put_end.Goals as goal
 
-pub returns-in-Never : goal.returns-in-Never
+pub returns-in-None : goal.returns-in-None
 unfolding end_text
-returns-in-Never c =
-    rw c.in-Never.is c.put_byte.ensures
+returns-in-None c = rw c.in-None.is c.put_byte.ensures
 
-pub returns-in-At : goal.returns-in-At
+pub returns-in-Some : goal.returns-in-Some
 unfolding end_text
-returns-in-At c =
-    rw c.in-At.is c.put_number.ensures
+returns-in-Some c = rw c.in-Some.is c.put_number.ensures

@@ -3,5 +3,4 @@ use Rattle.buffer.proofs.Puts.{puts_then}
 use Rattle.writer.proofs.rule.put_end_field.Goals as goal
 
 pub returns : goal.returns
-returns c =
-    puts_then c.put_end-at.ensures c.put_byte.ensures
+returns c = puts_then c.put_end.ensures c.put_byte.ensures

@@ -8,9 +8,9 @@ pub returns : goal.returns
 unfolding rule_fields
 returns c =
     puts_line rule_fields c.args.rule
-    (puts_then c.put_byte_field-at.ensures
-    (puts_then c.put_byte_field-at-2.ensures
-    (puts_then c.put_byte_field-at-3.ensures
-    (puts_then c.put_number_field-at.ensures
-    (puts_then c.put_end_field-at.ensures
-    (puts_then c.put_condition_field-at.ensures c.put_condition_field.ensures))))))
+    (puts_then c.put_byte_field.ensures
+    (puts_then c.put_byte_field-2.ensures
+    (puts_then c.put_byte_field-3.ensures
+    (puts_then c.put_number_field.ensures
+    (puts_then c.put_end_field.ensures
+    (puts_then c.put_condition_field.ensures c.put_condition_field-2.ensures))))))
