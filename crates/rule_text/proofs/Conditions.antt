@@ -1,18 +1,18 @@
 -- Conditions: a condition's slots are its list of comparisons; and comparisons one after the other.
-use mathlib.Core.Path.{◌≡◌, refl, ◌∙◌}
+use mathlib.Core.Path.{◌≡◌, refl}
 use mathlib.Core.Bool.{Bool}
+use mathlib.Core.Logic.{inl, inr}
 use mathlib.Core.List.{List, [], ◌∷◌, ◌++◌}
-use Prim.Native.Nat.{ℕ, ◌+◌, ◌≤◌, ◌<◌}
+use Prim.Native.Nat.{ℕ, suc, ◌+◌, ◌≤◌, ◌<◌}
 use native.Mathlib.Omega.{arith}
-use native.Mathlib.Numerals.{add-one}
 use borrow.Author.Tests.{lt-ltb, le-ltb}
-use lib.Dec.{eqb}
-use lib.ListN.{length, get_or, drop, length-take, drop_of_length-le}
-use lib.Seq.{drop-cons}
-use Rattle.std.specs.List.{slice_split, onto_first}
+use denote.Bor.{Bor}
+use lib.ListN.{length, length-take}
+use Rattle.std.specs.Prelude.{Option, None, Some, ◌⊎◌}
+use Rattle.std.specs.Slice.{IsGetRangeResult}
 use Rattle.declare.specs.Conditions.{comparisons_of}
-use Rattle.line.specs.Fields.{onto, split}
-use Rattle.line.proofs.Fields.{parts}
+use Rattle.line.specs.Fields.{index_of, before, following, split}
+use Rattle.line.proofs.Fields.{parts, part_rest}
 use Rattle.declare.specs.Answers.{accepted, refused, ◌>>=◌, ◌>>◌, require}
 use Rattle.rule_text.specs.Types.{Comparison, Condition}
 use Rattle.rule_text.specs.Comparisons.{comparison_field}
@@ -36,27 +36,32 @@ comparisons_few c =
 
 -- ---- one comparison after the other
 
-onto_is : (x b : ℕ) (s : List ℕ) → onto_first x (split b s) ≡ onto x (split b s)
-unfolding onto
-onto_is x b s = rw (parts b s)
+-- the fields of what is left of a condition
+unfoldable pub fields_left : Option (Bor (List ℕ)) → List (List ℕ)
+fields_left None = []
+fields_left (Some part) = split comma part.now
 
--- the parts of a slice are those of the field
-split_is : (b : ℕ) (s : List ℕ) → slice_split (λ x. eqb x b) s ≡ split b s
-unfolding split
-split_is b [] = refl
-split_is b (x ∷ s) = rw (split_is b s, onto_is x b s)
+-- one more than the bytes of what is left, so that an empty field counts too
+unfoldable pub bytes_left : Option (Bor (List ℕ)) → ℕ
+bytes_left None = 0
+bytes_left (Some part) = suc (length part.now)
 
--- the part in hand is the first of those left
-pub part_in_hand : (field : List ℕ) (n : ℕ) (part : List ℕ) → n < length (slice_split (λ x. eqb x comma) field) → part ≡ get_or (slice_split (λ x. eqb x comma) field) n part → drop n (split comma field) ≡ part ∷ drop (n + 1) (split comma field)
-part_in_hand field n part l e =
-    let h : n < length (split comma field) = rw (split_is comma field) at l in
-    let p : part ≡ get_or (split comma field) n part = rw (split_is comma field) at e in
-    drop-cons (split comma field) n part h ∙ rw (← p, add-one)
+-- what is left behind the first field of a part
+module _ (part : List ℕ) (n : ℕ) (found : index_of comma part ≡ n) where
+  pub fields_next : (rest : Option (Bor (List ℕ))) → IsGetRangeResult part (n + 1) (length part) rest → split comma part ≡ before comma part ∷ fields_left rest
+  unfolding fields_left following
+  fields_next None h = rw (parts comma part, found, le-ltb n (length part) (end h.0))
+    where
+      end : (length part < n + 1) ⊎ (length part < length part) → length part ≤ n
+      end (inl l) = omega arith
+      end (inr l) = omega arith
+  fields_next (Some x) h =
+      rw (parts comma part, found, lt-ltb n (length part) (omega (arith, h.0.0)), h.0.2, part_rest part (n + 1))
 
-pub no_parts : (field : List ℕ) (n : ℕ) → n ≡ length (slice_split (λ x. eqb x comma) field) → drop n (split comma field) ≡ []
-no_parts field n e =
-    let p : n ≡ length (split comma field) = rw (split_is comma field) at e in
-    drop_of_length-le (split comma field) (omega arith)
+  pub bytes_next : (rest : Option (Bor (List ℕ))) → IsGetRangeResult part (n + 1) (length part) rest → bytes_left rest ≤ length part
+  unfolding bytes_left
+  bytes_next None h = omega arith
+  bytes_next (Some x) h = omega (arith, h.0.3)
 
 module _ (correlation : Bool) (above : List Comparison) (field : List ℕ) (more : List (List ℕ)) where
   pub after_refused : (n : ℕ) → comparison_field correlation field ≡ refused n → comparisons_after correlation above (field ∷ more) ≡ refused n

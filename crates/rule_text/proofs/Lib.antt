@@ -1,4 +1,5 @@
 -- The laws of rules texts, for this crate and those above it.
+pub mod Comparisons
 pub mod ComparisonTexts
 pub mod Conditions
 pub mod ConditionTexts

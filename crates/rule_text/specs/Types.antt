@@ -13,4 +13,5 @@ pub use Rattle.declare.specs.declared.Refusal.{Refusal}
 pub use Rattle.number.specs.declared.Reader.{Reader}
 pub use Rattle.number.specs.declared.Fault.{Fault}
 pub use Rattle.number.specs.declared.Fault.TheVariants.{Form, Range}
+pub use Rattle.line.specs.declared.Field.{Field}
 pub use Rattle.line.specs.declared.LineRefusal.{LineRefusal}

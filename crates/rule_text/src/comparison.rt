@@ -1,11 +1,13 @@
-// Comparisons: a reading, an operator, and what it is compared with.
+// Comparisons: each function is handed the part of a condition that begins at what it reads, which
+// ends at a comma or with the part.
 ghost use Rattle.std.specs.Prelude.{◌≡◌};
 ghost use Rattle.declare.specs.Answers.{answer_of};
 ghost use Rattle.number.specs.Reader.{integer_in};
 ghost use Rattle.rule_text.specs.Comparisons.{digit_of, operator_of, k_answer, k_field, activation_field, reference_field, comparison_field};
+ghost use Rattle.rule_text.specs.Reads.{up_to_comma};
 
 use declare::{Comparison, Operator, Reference, Refusal};
-use line::{byte_at, part_from};
+use line::{Field, byte_at, part_from, scan_field};
 use number::{Fault, Reader};
 
 // A reading by its digit, `1` to `4`.
@@ -43,45 +45,63 @@ fn k_answer(reader: Reader) -> Result<i32, Refusal>
     }
 }
 
-fn k_field(field: &[u8]) -> Result<i32, Refusal>
-    ensures { answer_of result ≡ k_field field.now }
+fn k_field(part: &[u8]) -> Result<Field<i32>, Refusal>
+    ensures { answer_of result ≡ up_to_comma k_field part.now }
 {
-    k_answer(Reader::over(field))
+    let scan = scan_field(part, b',');
+    Ok(Field {
+        answer: k_answer(scan.answer)?,
+        length: scan.length,
+    })
 }
 
 // What follows `@`.
-fn activation(field: &[u8]) -> Result<Reference, Refusal>
-    ensures { answer_of result ≡ activation_field field.now }
+fn activation(part: &[u8]) -> Result<Field<Reference>, Refusal>
+    ensures { answer_of result ≡ up_to_comma activation_field part.now }
 {
-    let g = digit_of(byte_at(field, 0))?;
-    if byte_at(field, 1) != b':' {
+    let g = digit_of(byte_at(part, 0))?;
+    if byte_at(part, 1) != b':' {
         return Err(Refusal::ComparisonForm);
     }
-    let k = k_field(part_from(field, 2))?;
-    Ok(Reference::Activation(g, k))
+    let k = k_field(part_from(part, 2))?;
+    Ok(Field {
+        answer: Reference::Activation(g, k.answer),
+        length: k.length + 2,
+    })
 }
 
-fn reference(field: &[u8], correlation: bool) -> Result<Reference, Refusal>
-    ensures { answer_of result ≡ reference_field correlation field.now }
+fn reference(part: &[u8], correlation: bool) -> Result<Field<Reference>, Refusal>
+    ensures { answer_of result ≡ up_to_comma (reference_field correlation) part.now }
 {
-    if byte_at(field, 0) != b'@' {
-        return Ok(Reference::Constant(k_field(field)?));
+    if byte_at(part, 0) != b'@' {
+        let k = k_field(part)?;
+        return Ok(Field {
+            answer: Reference::Constant(k.answer),
+            length: k.length,
+        });
     }
     if !correlation {
         return Err(Refusal::ComparisonForm);
     }
-    activation(part_from(field, 1))
+    let activation = activation(part_from(part, 1))?;
+    Ok(Field {
+        answer: activation.answer,
+        length: activation.length + 1,
+    })
 }
 
-pub fn comparison(field: &[u8], correlation: bool) -> Result<Comparison, Refusal>
-    ensures { answer_of result ≡ comparison_field correlation field.now }
+pub fn comparison(part: &[u8], correlation: bool) -> Result<Field<Comparison>, Refusal>
+    ensures { answer_of result ≡ up_to_comma (comparison_field correlation) part.now }
 {
-    let reading = digit_of(byte_at(field, 0))?;
-    let operator = operator_of(byte_at(field, 1))?;
-    let reference = reference(part_from(field, 2), correlation)?;
-    Ok(Comparison {
-        reading,
-        operator,
-        reference,
+    let reading = digit_of(byte_at(part, 0))?;
+    let operator = operator_of(byte_at(part, 1))?;
+    let reference = reference(part_from(part, 2), correlation)?;
+    Ok(Field {
+        answer: Comparison {
+            reading,
+            operator,
+            reference: reference.answer,
+        },
+        length: reference.length + 2,
     })
 }

@@ -46,12 +46,16 @@ fn comparisons(field: &[u8], correlation: bool) -> Result<Condition, Refusal>
     ensures { answer_of result ≡ comparisons_field correlation field.now }
 {
     let mut condition = no_condition();
-    for part in field.split(|byte| *byte == b',') {
+    // What is left to read: none where the last comparison ended with the field. By no iterator:
+    // `split` would go over the bytes to find what the comparison finds as it reads.
+    let mut rest = Some(field);
+    while let Some(part) = rest {
         let next = comparison(part, correlation)?;
         if COMPARISONS <= condition.count {
             return Err(Refusal::TooManyComparisons);
         }
-        condition = with(condition, next);
+        condition = with(condition, next.answer);
+        rest = part.get(next.length + 1..);
     }
     Ok(condition)
 }
