@@ -1,5 +1,5 @@
 -- `line::number_field`: the reader's answer for the whole field is document 01's.
-use mathlib.Core.Path.{ap}
+use mathlib.Core.Path.{◌∙◌, ap}
 use native.Mathlib.Omega.{arith}
 use Rattle.number.specs.Reader.{bound}
 use Rattle.number.proofs.Answers.{answers}
@@ -13,4 +13,4 @@ unfolding number_field field_scan bound
 returns-clause-answer_value c =
     let a = c.args in
     let f = (answers (before a.separator a.part.now)).natural a.low a.high (omega arith) in
-    rw (c.natural.ensures, c.scan_field-scan.ensures) (ap natural_answer f)
+    ap natural_answer (c.natural.ensures ∙ rw c.scan_field-scan.ensures f)
