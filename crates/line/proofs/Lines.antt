@@ -11,7 +11,8 @@ use lib.Seq.{take-suc, take_all}
 use Rattle.std.specs.Prelude.{Result, Ok, Err}
 use Rattle.std.specs.Result.{IsErrAnd, MatchResult}
 use Rattle.declare.specs.Refusals.{number_of}
-use Rattle.line.specs.Types.{Refusal}
+use Rattle.number.specs.Number.{fault_number}
+use Rattle.line.specs.Types.{Refusal, Fault}
 use Rattle.declare.specs.Answers.{Answer, accepted, refused, answer_of, ◌>>=◌, ◌>>◌, require}
 use Rattle.line.specs.Fields.{LF, tab, index_of, before, following, fields_from, split}
 use Rattle.line.specs.Texts.{has_fields, line_of}
@@ -23,6 +24,13 @@ pub told : {A : Type 0} (cause : Refusal) (r : Result A Refusal) → IsErrAnd r 
 unfolding answer_of
 told cause (Ok a) h = absurd h
 told cause (Err passed) h = rw h
+
+-- ---- a field's fault, of which `?` makes a refusal
+
+pub told_fault : {A : Type 0} (fault : Fault) (r : Result A Refusal) → IsErrAnd r (λ passed. number_of passed ≡ fault_number fault) → answer_of r ≡ refused (fault_number fault)
+unfolding answer_of
+told_fault fault (Ok a) h = absurd h
+told_fault fault (Err passed) h = rw h
 
 -- ---- an answer that goes on from another
 

@@ -5,9 +5,13 @@ use Rattle.number.specs.Written.{integer_text}
 use Rattle.line.specs.Types.{Reading, Fault}
 use Rattle.declare.specs.Answers.{Answer, accepted, refused}
 
+-- what a field's answer says, by document 01's numbers
+abbrev pub fault_answer : {A : Type 0} → Result A Fault → Answer A
+fault_answer (Ok a) = accepted a
+fault_answer (Err f) = refused (fault_number f)
+
 abbrev pub natural_answer : Result ℕ Fault → Answer ℕ
-natural_answer (Ok v) = accepted v
-natural_answer (Err f) = refused (fault_number f)
+natural_answer = fault_answer
 
 -- an unsigned number from low to high
 unfoldable pub number_field : ℕ → ℕ → List ℕ → Answer ℕ

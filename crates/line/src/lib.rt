@@ -4,15 +4,14 @@
 
 ghost use Rattle.std.specs.Prelude.{◌≡◌, ◌+◌, get_or, take, drop};
 ghost use Rattle.number.specs.Number.{dash};
-ghost use Rattle.number.specs.Reader.{natural_in};
 ghost use Rattle.declare.specs.Answers.{answer_of};
 ghost use Rattle.line.specs.Fields.{LF, tab, index_of, before};
 ghost use Rattle.line.specs.Scans.{line_scan, field_scan, reading_by};
 ghost use Rattle.line.specs.Texts.{has_fields, at_line, line_of};
-ghost use Rattle.line.specs.Values.{natural_answer, number_field, reading_field};
+ghost use Rattle.line.specs.Values.{fault_answer, natural_answer, number_field, reading_field};
 
 use declare::{Reading, Refusal};
-use number::Reader;
+use number::{Fault, Reader};
 
 // The bytes that end a line, and a field before its last.
 pub const LINE_FEED: u8 = b'\n';
@@ -121,29 +120,22 @@ pub fn scan_field(part: &[u8], separator: u8) -> Field<Reader>
     }
 }
 
-#[tactic(auto, unfolding(declare::specs::Answers::answer_of))]
-fn number_answer(reader: Reader, low: u32, high: u32) -> Result<u32, Refusal>
-    ensures { answer_of result ≡ natural_answer (natural_in low high reader) }
-{
-    Ok(reader.natural(low, high)?)
-}
-
 // The first field as an unsigned number from `low` to `high`.
 #[tactic(auto, unfolding(crate::specs::Scans::field_scan))]
-pub fn number_field(part: &[u8], separator: u8, low: u32, high: u32) -> Field<Result<u32, Refusal>>
-    ensures answer_value { answer_of result.answer ≡ number_field low high (before separator part.now) }
+pub fn number_field(part: &[u8], separator: u8, low: u32, high: u32) -> Field<Result<u32, Fault>>
+    ensures answer_value { natural_answer result.answer ≡ number_field low high (before separator part.now) }
     ensures length_value { result.length ≡ index_of separator part.now }
 {
     let scan = scan_field(part, separator);
     Field {
-        answer: number_answer(scan.answer, low, high),
+        answer: scan.answer.natural(low, high),
         length: scan.length,
     }
 }
 
 // The first field, which a tab ends, as a number from 1 to `high`.
-pub fn byte_field(part: &[u8], high: u8) -> Field<Result<u8, Refusal>>
-    ensures answer_value { answer_of result.answer ≡ number_field 1 high (before tab part.now) }
+pub fn byte_field(part: &[u8], high: u8) -> Field<Result<u8, Fault>>
+    ensures answer_value { natural_answer result.answer ≡ number_field 1 high (before tab part.now) }
     ensures length_value { result.length ≡ index_of tab part.now }
 {
     let field = number_field(part, TAB, 1, u32::from(high));
@@ -153,9 +145,9 @@ pub fn byte_field(part: &[u8], high: u8) -> Field<Result<u8, Refusal>>
     }
 }
 
-#[tactic(auto, unfolding(crate::specs::Scans::reading_by, declare::specs::Answers::answer_of))]
-fn reading_answer(reader: Reader) -> Result<Reading, Refusal>
-    ensures { answer_of result ≡ reading_by reader }
+#[tactic(auto, unfolding(crate::specs::Scans::reading_by))]
+fn reading_answer(reader: Reader) -> Result<Reading, Fault>
+    ensures { fault_answer result ≡ reading_by reader }
 {
     if reader.is_dash() {
         return Ok(None);
@@ -165,8 +157,8 @@ fn reading_answer(reader: Reader) -> Result<Reading, Refusal>
 
 // The first field as a reading.
 #[tactic(auto, unfolding(crate::specs::Scans::field_scan))]
-pub fn reading_field(part: &[u8], separator: u8) -> Field<Result<Reading, Refusal>>
-    ensures answer_value { answer_of result.answer ≡ reading_field (before separator part.now) }
+pub fn reading_field(part: &[u8], separator: u8) -> Field<Result<Reading, Fault>>
+    ensures answer_value { fault_answer result.answer ≡ reading_field (before separator part.now) }
     ensures length_value { result.length ≡ index_of separator part.now }
 {
     let scan = scan_field(part, separator);

@@ -1,17 +1,17 @@
 // The end of a window: its field, and whether it is above the window's start.
 ghost use Rattle.std.specs.Prelude.{◌≡◌};
-ghost use Rattle.declare.specs.Answers.{answer_of};
 ghost use Rattle.line.specs.Fields.{tab, index_of, before};
+ghost use Rattle.line.specs.Values.{fault_answer};
 ghost use Rattle.rule_text.specs.Rules.{end_field, is_above};
 ghost use Rattle.rule_text.specs.Reads.{end_by};
 
-use declare::{End, Refusal};
+use declare::End;
 use line::{Field, TAB, scan_field};
-use number::Reader;
+use number::{Fault, Reader};
 
 // The bytes that the reader was handed, as the end of a window.
-fn end_answer(reader: Reader) -> Result<End, Refusal>
-    ensures { answer_of result ≡ end_by reader }
+fn end_answer(reader: Reader) -> Result<End, Fault>
+    ensures { fault_answer result ≡ end_by reader }
 {
     if reader.is_dash() {
         return Ok(None);
@@ -21,8 +21,8 @@ fn end_answer(reader: Reader) -> Result<End, Refusal>
 
 // The first field as the end of a window.
 #[tactic(auto, unfolding(line::specs::Scans::field_scan))]
-pub fn end_field(part: &[u8]) -> Field<Result<End, Refusal>>
-    ensures answer_value { answer_of result.answer ≡ end_field (before tab part.now) }
+pub fn end_field(part: &[u8]) -> Field<Result<End, Fault>>
+    ensures answer_value { fault_answer result.answer ≡ end_field (before tab part.now) }
     ensures length_value { result.length ≡ index_of tab part.now }
 {
     let scan = scan_field(part, TAB);

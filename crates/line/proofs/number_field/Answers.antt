@@ -13,4 +13,4 @@ unfolding number_field field_scan bound
 returns-clause-answer_value c =
     let a = c.args in
     let f = (answers (before a.separator a.part.now)).natural a.low a.high (omega arith) in
-    c.number_answer.ensures ∙ rw c.scan_field-scan.ensures (ap natural_answer f)
+    ap natural_answer (c.natural.ensures ∙ rw c.scan_field-scan.ensures f)
