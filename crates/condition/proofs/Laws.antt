@@ -8,7 +8,8 @@ use lib.ListN.{take}
 use Rattle.declare.specs.declared.Event.{Event}
 use Rattle.declare.specs.declared.Condition.{Condition}
 use Rattle.declare.specs.declared.Rule.{Rule}
-use Rattle.declare.specs.Comparisons.{test_of}
+use Rattle.declare.specs.Lists.{all}
+use Rattle.declare.specs.Comparisons.{test_of, passes}
 use Rattle.declare.specs.Conditions.{comparisons_of, tests_of, met}
 use Rattle.declare.specs.Suits.{within, between, correlates, suits}
 use Rattle.declare.specs.Events.{first_time, empty_slot}
@@ -24,6 +25,11 @@ take_map f (suc n) (x ∷ xs) = ap (λ ys. f x ∷ ys) (take_map f n xs)
 tests_bound : (a : Event) (c : Condition) → test_list (tests_for a c) ≡ tests_of a c
 unfolding tests_for tests_of comparisons_of
 tests_bound a c = take_map (test_of a) c.count (c.first ∷ c.second ∷ c.third ∷ c.fourth ∷ [])
+
+-- so the condition is met where these tests pass
+pub met_bound : (c : Condition) (a e : Event) → all (passes e) (test_list (tests_for a c)) ≡ met c a e
+unfolding met
+met_bound c a e = ap (all (passes e)) (tests_bound a c)
 
 -- the window may be tried before the correlation
 last_two : (x y z : Bool) → (x && y && z) ≡ (x && z && y)

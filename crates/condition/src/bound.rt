@@ -1,9 +1,9 @@
 // A rule bound to one activation: its references made numbers once, for every event that is then
 // tried.
 ghost use Rattle.std.specs.Prelude.{◌≡◌};
-ghost use Rattle.std.specs.List.{list_all};
+ghost use Rattle.declare.specs.Lists.{all};
 ghost use Rattle.declare.specs.Comparisons.{passes};
-ghost use Rattle.condition.specs.Bound.{tests_for, bound_of, cycle_bound};
+ghost use Rattle.condition.specs.Bound.{test_list, tests_for, bound_of, cycle_bound};
 
 use crate::comparison::{passes, test_of};
 use crate::four::Four;
@@ -26,7 +26,7 @@ pub struct Bound {
 // shared, so that it would not be inlined otherwise: each activation costs a call of it.
 #[tactic(auto, unfolding(crate::specs::Bound::tests_for))]
 #[inline(always)]
-fn tests_for(a: Event, c: Condition) -> Tests
+pub fn tests_for(a: Event, c: Condition) -> Tests
     ensures { result ≡ tests_for a c }
 {
     Four {
@@ -38,6 +38,13 @@ fn tests_for(a: Event, c: Condition) -> Tests
             test_of(a, c.fourth),
         ],
     }
+}
+
+// Whether e passes every test: up to the first that does not hold.
+pub fn all_pass(tests: Tests, e: Event) -> bool
+    ensures { result ≡ all (passes e) (test_list tests) }
+{
+    tests.used().iter().all(|t| passes(e, *t))
 }
 
 // The rule bound to the activation a.

@@ -31,7 +31,7 @@ use Rattle.run.specs.Calls.{call_of, take_of, notice_of}
 use Rattle.run.specs.Close.{close_of}
 use Rattle.run.specs.Queries.{one_of, is_position, standing_of, totals_of}
 use Rattle.tally.specs.declared.Tally.{Tally}
-use Rattle.tally.specs.declared.Counted.{Counted}
+use Rattle.tally.specs.declared.answer.Counted.{Counted}
 use Rattle.tally.specs.Tally.{has_room_for, counts_of, with_totals, with_counted, absorb_of, tally_answer, Counts, Absorbs}
 use Rattle.line.specs.Texts.{Records, All, Stop}
 use Rattle.cycle_text.specs.Cycle.{event_after, cycle_text_of}

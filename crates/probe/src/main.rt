@@ -20,7 +20,7 @@ mod text; // text.rt: texts that follow a command
 mod written; // written.rt: texts written into a buffer
 mod day; // day.rt: the tally
 
-#[derive(Drop)]
+#[derive(Clone, Copy)]
 pub struct State {
     pub table: Table,
     pub run: Run,

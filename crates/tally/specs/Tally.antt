@@ -9,7 +9,7 @@ use Rattle.run.specs.declared.Run.{Run}
 use Rattle.run.specs.Records.{totals_in, valid_run}
 use Rattle.run.specs.Queries.{one_of}
 use Rattle.tally.specs.declared.Tally.{Tally}
-use Rattle.tally.specs.declared.Counted.{Counted}
+use Rattle.tally.specs.declared.answer.Counted.{Counted}
 
 -- a field has 32 bits
 abbrev pub most_counted : ℕ

@@ -1,13 +1,21 @@
 // The day tally of one rule.
 #![tactic(auto)]
 
-ghost use Rattle.std.specs.Prelude.{◌≡◌, cond};
+ghost use Rattle.std.specs.Prelude.{◌≡◌, true, cond, [], ◌∷◌};
 ghost use Rattle.declare.specs.Answers.{answer_of};
+ghost use Rattle.tally.specs.Causes.{refuses_with};
 ghost use Rattle.tally.specs.Tally.{has_room_for, added, counts_of, with_counted, Counts, Absorbs};
 
 use declare::Refusal;
 use run::Run;
 use standings::totals::Totals;
+
+mod answer; // answer.rt: what was counted of a rule
+
+pub use answer::Counted;
+
+// The most that a field of a tally can count.
+pub const MOST_COUNTED: u64 = 4294967295;
 
 // How many cycles were absorbed, and the sums of their totals.
 #[derive(Clone, Copy)]
@@ -24,12 +32,6 @@ pub struct Tally {
 pub struct Sum {
     pub tally: Tally,
     pub outcome: Result<(), Refusal>,
-}
-
-// What a tally takes from a run. The field is private, so that only counted_of makes one.
-#[derive(Clone, Copy)]
-pub struct Counted {
-    answer: Result<Totals, Refusal>,
 }
 
 // The tally with the totals of one cycle more, if no field would pass its range.
@@ -78,7 +80,8 @@ fn next(tally: Tally, counted: Counted) -> Result<Tally, Refusal>
 // The tally with the totals of one cycle more, by value. Refused as they are, or with 14, the tally
 // then as it was.
 pub fn absorbed(tally: Tally, counted: Counted) -> Sum
-    ensures { Absorbs tally counted result.tally result.outcome }
+    ensures absorbs { Absorbs tally counted result.tally result.outcome }
+    ensures causes { refuses_with (11 ∷ 10 ∷ 9 ∷ 14 ∷ []) (answer_of result.outcome) ≡ true }
 {
     match next(tally, counted) {
         Ok(next) => Sum {
@@ -94,7 +97,8 @@ pub fn absorbed(tally: Tally, counted: Counted) -> Sum
 
 // The same in place: absorb(&mut tally, counted_of(run, rule)) absorbs a closed run.
 pub fn absorb(tally: &mut Tally, counted: Counted) -> Result<(), Refusal>
-    ensures { Absorbs tally.old counted tally.new result }
+    ensures absorbs { Absorbs tally.old counted tally.new result }
+    ensures causes { refuses_with (11 ∷ 10 ∷ 9 ∷ 14 ∷ []) (answer_of result) ≡ true }
 {
     *tally = next(*tally, counted)?;
     Ok(())

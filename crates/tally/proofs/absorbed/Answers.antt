@@ -1,10 +1,16 @@
--- By the answer.
+-- By the answer; what absorbing is refused with follows.
 use Rattle.std.proofs.Common.{refl}
-use Rattle.tally.proofs.Sums.{absorbs, absorbs_none}
+use Rattle.tally.proofs.Sums.{absorbs, absorbs_none, absorb_causes}
 use Rattle.tally.proofs.absorbed.Goals as goal
 
-pub returns-in-Ok : goal.returns-in-Ok
-returns-in-Ok c = absorbs c.in-Ok.ensures
+pub returns-in-Ok-clause-absorbs : goal.returns-in-Ok-clause-absorbs
+returns-in-Ok-clause-absorbs c = absorbs c.in-Ok.ensures
 
-pub returns-in-Err : goal.returns-in-Err
-returns-in-Err c = absorbs_none refl c.in-Err.ensures
+pub returns-in-Ok-clause-causes : goal.returns-in-Ok-clause-causes
+returns-in-Ok-clause-causes c = absorb_causes (absorbs c.in-Ok.ensures)
+
+pub returns-in-Err-clause-absorbs : goal.returns-in-Err-clause-absorbs
+returns-in-Err-clause-absorbs c = absorbs_none refl c.in-Err.ensures
+
+pub returns-in-Err-clause-causes : goal.returns-in-Err-clause-causes
+returns-in-Err-clause-causes c = absorb_causes (absorbs_none refl c.in-Err.ensures)
