@@ -1,9 +1,10 @@
 // Whether a record is valid: the causes of refusal 11.
-ghost use Rattle.std.specs.Prelude.{◌≡◌, cond, ◌+◌, ◌≤◌, get_or};
+ghost use Rattle.std.specs.Prelude.{◌≡◌, cond, ◌+◌, ◌≤◌, leb, get_or};
 ghost use Rattle.declare.specs.Lists.{all_below};
 ghost use Rattle.declare.specs.Limits.{most_rules, most_events};
+ghost use Rattle.declare.specs.Standings.{is_idle};
 ghost use Rattle.standings.specs.Totals.{no_totals, row_totals};
-ghost use Rattle.run.specs.Records.{valid_events, valid_standing, events_judged, valid_at, valid_standings, valid_zero, valid_overall, same_totals, valid_run};
+ghost use Rattle.run.specs.Records.{valid_events, valid_standing, events_judged, valid_standings, valid_zero, valid_overall, same_totals, valid_run};
 
 use crate::Run;
 use declare::codes::is_overall;
@@ -48,13 +49,12 @@ fn events_judged(rule: Rule, count: usize) -> usize
     if is_overall(rule.code) { 0 } else { count }
 }
 
-// Whether s may stand at place p of a row, that is at position p + 1, if so many of the events are
-// judged: idle may stand anywhere.
-#[tactic(auto, unfolding(crate::specs::Records::valid_at))]
-fn valid_at(closed: bool, judged: usize, p: usize, s: Standing) -> bool
-    ensures { result ≡ valid_at closed judged (p + 1) s }
+// Whether s may stand at place p of a row, that is at position p + 1, if so many of `count` events
+// are judged: idle may stand anywhere. A target is held against the event count itself.
+fn valid_at(closed: bool, count: usize, judged: usize, p: usize, s: Standing) -> bool
+    ensures { result ≡ cond (leb (p + 1) judged) (valid_standing closed count s) (is_idle s) }
 {
-    s.is_idle() || (p < judged && valid_standing(closed, judged, s))
+    s.is_idle() || (p < judged && valid_standing(closed, count, s))
 }
 
 // The totals of the rules' rows, if every cell of them may stand where it does; most are idle. This
@@ -76,7 +76,7 @@ fn checked_rows(
             continue;
         }
         let judged = events_judged(table.rules[j / EVENTS], count);
-        if !valid_at(closed, judged, j % EVENTS, s) {
+        if !valid_at(closed, count, judged, j % EVENTS, s) {
             return None;
         }
         totals[j / EVENTS] = with_standing(totals[j / EVENTS], s);

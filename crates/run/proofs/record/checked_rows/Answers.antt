@@ -46,7 +46,7 @@ loop-j-preserved-then-is_idle c =
     let idle : is_idle s ≡ true = sym c.is_idle.ensures ∙ c.if-is_idle.true in
     let low : l.j < places = omega (arith, c.requires.0) in (
       omega arith,
-      all_again _ _ l.invariant.1 (sym (idle_anywhere a.closed (events_judged (rule_at a.table (l.j / 256 + 1)) a.count) (l.j % 256 + 1) s idle)),
+      all_again _ _ l.invariant.1 (sym (idle_anywhere a.closed a.count (events_judged (rule_at a.table (l.j / 256 + 1)) a.count) (l.j % 256 + 1) s idle)),
       counting_idle l.invariant.2 c.requires.1 low (only_idle s idle),
     )
 
@@ -75,7 +75,7 @@ loop-j-preserved c =
     let own = of_row a.table (l.j / 256) a.count c.events_judged-judged.ensures in
     let holds : valid a.closed a.table a.count a.cells l.j ≡ true = rw (← own) (sym c.if-not-valid_at.ensures) in
     let low : l.j < places = omega (arith, c.requires.0) in
-    let within = stands_judged a.closed (events_judged (rule_at a.table (l.j / 256 + 1)) a.count) (l.j % 256 + 1) s holds (sym c.if-is_idle.ensures) in
+    let within = stands_judged a.closed a.count (events_judged (rule_at a.table (l.j / 256 + 1)) a.count) (l.j % 256 + 1) s holds (sym c.if-is_idle.ensures) in
     let most = judged_most (rule_at a.table (l.j / 256 + 1)) a.count in (
       omega arith,
       all_again _ _ l.invariant.1 (sym holds),
