@@ -6,7 +6,7 @@ use mathlib.Core.List.{List, [], ◌∷◌}
 use Rattle.std.specs.List.{list_all, zip}
 use Prim.Native.Nat.{ℕ, zero, suc, ◌+◌, ◌*◌, ◌/◌, ◌%◌, ◌≤◌, ◌<◌, zero-le}
 use native.Mathlib.Omega.{arith}
-use borrow.Author.Tests.{leb-true}
+use borrow.Author.Tests.{lt-leb, leb-true}
 use native.Mathlib.Nat.{not-suc-le-zero, le_of_suc-le-suc}
 use native.Mathlib.Numerals.{add-one}
 use lib.Pointwise.{pointwise}
@@ -27,6 +27,7 @@ use Rattle.standings.specs.Places.{idle_cell, standing_in}
 use Rattle.standings.proofs.Same.{standing_at_lem}
 use Rattle.run.specs.Records.{valid_standing, valid_at, valid_row, events_judged, valid_standings}
 use Rattle.declare.proofs.Lists.{all_more, all_same, all_rows, falls_more, last_more}
+use Rattle.run.proofs.Places.{stands_at}
 
 -- ---- the events: well-formed so far, and their times have not fallen
 
@@ -97,19 +98,29 @@ judged_most rule n = go (is_overall rule.code)
     go false = omega arith
 
 -- what is not idle stands where it is judged
-pub stands_judged : (over : Bool) (m i : ℕ) (s : Standing) → valid_at over m i s ≡ true → is_idle s ≡ false → i ≤ m
-unfolding valid_at
-stands_judged over m i s h active = go (leb i m) refl h
+pub stands_judged : (over : Bool) (n m i : ℕ) (s : Standing) → stands_at over n m i s ≡ true → is_idle s ≡ false → i ≤ m
+stands_judged over n m i s h active = go (leb i m) refl h
   where
-    go : (b : Bool) → leb i m ≡ b → cond b (valid_standing over m s) (is_idle s) ≡ true → i ≤ m
+    go : (b : Bool) → leb i m ≡ b → cond b (valid_standing over n s) (is_idle s) ≡ true → i ≤ m
     go true q h = leb-true i m q
     go false q h = absurd (true≢false (sym h ∙ active))
 
+-- under a rule all events are judged, or none
+stands_valid : (closed : Bool) (r : Rule) (n p : ℕ) (s : Standing) → stands_at closed n (events_judged r n) (p + 1) s ≡ valid_at closed (events_judged r n) (p + 1) s
+unfolding events_judged valid_at
+stands_valid closed r n p s = go (is_overall r.code)
+  where
+    go : (o : Bool) → stands_at closed n (cond o 0 n) (p + 1) s ≡ stands_at closed (cond o 0 n) (cond o 0 n) (p + 1) s
+    go true = rw (lt-leb (p + 1) 0 (omega arith)) refl
+    go false = refl
+
 -- the places of the rows, in flat order
-pub flat_standings : (closed : Bool) (t : Table) (count : ℕ) (cells : List Cell) → all_below (λ j. valid_at closed (events_judged (rule_at t (j / 256 + 1)) count) (j % 256 + 1) (get_or cells j idle_cell).standing) (t.count * 256) ≡ valid_standings closed t count cells
+pub flat_standings : (closed : Bool) (t : Table) (count : ℕ) (cells : List Cell) → all_below (λ j. stands_at closed count (events_judged (rule_at t (j / 256 + 1)) count) (j % 256 + 1) (get_or cells j idle_cell).standing) (t.count * 256) ≡ valid_standings closed t count cells
 unfolding valid_standings valid_row
 flat_standings closed t count cells =
-    all_same _ (λ j. at (j / 256) (j % 256)) (t.count * 256) (λ j l. ap (λ (s : Standing). valid_at closed (events_judged (rule_at t (j / 256 + 1)) count) (j % 256 + 1) s) (sym (standing_at_lem cells j)))
+    all_same _ (λ j. at (j / 256) (j % 256)) (t.count * 256)
+    (λ j l. ap (λ (s : Standing). stands_at closed count (events_judged (rule_at t (j / 256 + 1)) count) (j % 256 + 1) s) (sym (standing_at_lem cells j))
+    ∙ stands_valid closed (rule_at t (j / 256 + 1)) count (j % 256) _)
     ∙ all_rows at t.count
   where
     at : ℕ → ℕ → Bool

@@ -29,7 +29,7 @@ use Rattle.standings.proofs.Places.{in_use_lem, from_one}
 use Rattle.standings.proofs.Changes.{idle_everywhere, changed_length, changed_standing, changed_past, changed_kept, overall_length, overall_changed, overall_kept}
 use Rattle.judge.specs.Cells.{judged, judged_at, judged_cells, judged_overall}
 use Rattle.run.specs.declared.Run.{Run}
-use Rattle.run.specs.Records.{events_of, horizon_of, standing_at, with_standings, valid_at, valid_row, events_judged, valid_standings, valid_zero, valid_overall, Sized}
+use Rattle.run.specs.Records.{events_of, horizon_of, standing_at, with_standings, valid_standing, valid_at, valid_row, events_judged, valid_standings, valid_zero, valid_overall, Sized}
 use Rattle.run.specs.Start.{idle_run, new_run}
 use Rattle.run.specs.Calls.{judged_run}
 use Rattle.run.specs.Close.{closed_at, closed_cells, closed_overall, closed_run}
@@ -210,10 +210,13 @@ abbrev pub valid_here : Bool → Rule → ℕ → ℕ → Standing → Bool
 valid_here over r n zero s = not (is_overall r.code) || valid_zero over n s
 valid_here over r n (suc i) s = valid_at over (events_judged r n) (suc i) s
 
+-- s may stand at a position i past 0, of which those up to m are judged, of n events
+abbrev pub stands_at : Bool → ℕ → ℕ → ℕ → Standing → Bool
+stands_at over n m i s = cond (leb i m) (valid_standing over n s) (is_idle s)
+
 -- idle may stand anywhere
-pub idle_anywhere : (over : Bool) (m i : ℕ) (s : Standing) → is_idle s ≡ true → valid_at over m i s ≡ true
-unfolding valid_at
-idle_anywhere over m i s h = rw (only_idle s h) (go (leb i m))
+pub idle_anywhere : (over : Bool) (n m i : ℕ) (s : Standing) → is_idle s ≡ true → stands_at over n m i s ≡ true
+idle_anywhere over n m i s h = rw (only_idle s h) (go (leb i m))
   where
     go : (b : Bool) → cond b true true ≡ true
     go true = refl

@@ -163,7 +163,7 @@ module _ (r : Rule) where
 
   pub idle_here : (over : Bool) (n i : ℕ) (s : Standing) → is_idle s ≡ true → valid_here over r n (suc i) s ≡ true
   unfolding valid_at
-  idle_here over n i s h = idle_anywhere over (events_judged r n) (suc i) s h
+  idle_here over n i s h = idle_anywhere over (events_judged r n) (events_judged r n) (suc i) s h
 
   pub zero_here : (over : Bool) (n : ℕ) (s : Standing) → (is_overall r.code ≡ true → valid_zero over n s ≡ true) → valid_here over r n 0 s ≡ true
   zero_here over n s f = go (is_overall r.code) refl

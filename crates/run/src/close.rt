@@ -8,7 +8,7 @@ ghost use Rattle.declare.specs.Verdicts.{decided};
 ghost use Rattle.run.specs.Answers.{step_answer};
 ghost use Rattle.run.specs.Close.{ClosedCells, close_of};
 
-use crate::record::valid_run;
+use crate::record::is_valid;
 use crate::{Run, Step, running};
 use declare::{EVENTS, RULES, Rule, Standing, Table};
 use judge::overall::judge_overall;
@@ -56,7 +56,7 @@ impl Run {
     pub fn close(self) -> Step
         ensures { (step_answer result ≡ close_of self) × (result.run ≡ after_call self (close_of self)) }
     {
-        if let Err(cause) = running(valid_run(self), self.closed) {
+        if let Err(cause) = running(is_valid(&self), self.closed) {
             return self.refused(cause);
         }
         let table = self.table;

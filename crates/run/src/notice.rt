@@ -4,7 +4,7 @@ ghost use Rattle.declare.specs.Answers.{answer_of, after_call};
 ghost use Rattle.run.specs.Answers.{step_answer};
 ghost use Rattle.run.specs.Calls.{kept_time, notice_of};
 
-use crate::record::valid_run;
+use crate::record::is_valid;
 use crate::{Run, Step, horizon, running};
 use declare::Refusal;
 
@@ -28,7 +28,7 @@ impl Run {
     pub fn notice(self, time: u64) -> Step
         ensures { (step_answer result ≡ notice_of self time) × (result.run ≡ after_call self (notice_of self time)) }
     {
-        let running = running(valid_run(self), self.closed);
+        let running = running(is_valid(&self), self.closed);
         let events = self.events;
         let horizon = horizon(self.count, events, self.clock);
         match notices(running, horizon, time) {

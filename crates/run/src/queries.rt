@@ -4,7 +4,7 @@ ghost use Rattle.declare.specs.Answers.{answer_of};
 ghost use Rattle.run.specs.Queries.{one_of, is_position, standing_of, totals_of};
 
 use crate::Run;
-use crate::record::valid_run;
+use crate::record::is_valid;
 use declare::codes::is_overall_rule;
 use declare::{Refusal, Standing, Table};
 use standings::totals::Totals;
@@ -34,7 +34,7 @@ impl Run {
     pub fn standing(self, rule: usize, position: usize) -> Result<Standing, Refusal>
         ensures { answer_of result ≡ standing_of self rule position }
     {
-        if !valid_run(self) {
+        if !is_valid(&self) {
             return Err(Refusal::InvalidRecord);
         }
         let table = self.table;
@@ -51,7 +51,7 @@ impl Run {
     pub fn totals(self, rule: usize) -> Result<Totals, Refusal>
         ensures { answer_of result ≡ totals_of self rule }
     {
-        if !valid_run(self) {
+        if !is_valid(&self) {
             return Err(Refusal::InvalidRecord);
         }
         if !one_of(self.table.count, rule) {

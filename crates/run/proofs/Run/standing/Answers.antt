@@ -7,9 +7,9 @@ use Rattle.standings.specs.Places.{with_zero}
 use Rattle.run.specs.Queries.{standing_of}
 use Rattle.run.proofs.Run.standing.Goals as goal
 
-pub returns-then-not-valid_run : goal.returns-then-not-valid_run
+pub returns-then-not-is_valid : goal.returns-then-not-is_valid
 unfolding answer_of standing_of ◌>>◌ require number_of
-returns-then-not-valid_run c = grind (arith, common_steps)
+returns-then-not-is_valid c = grind (arith, common_steps)
 
 pub returns-then-not-one_of-is_position : goal.returns-then-not-one_of-is_position
 unfolding answer_of standing_of ◌>>◌ require number_of

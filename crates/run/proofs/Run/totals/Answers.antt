@@ -8,9 +8,9 @@ use Rattle.run.specs.Queries.{totals_of}
 use Rattle.run.proofs.Bounds.{valid_parts}
 use Rattle.run.proofs.Run.totals.Goals as goal
 
-pub returns-then-not-valid_run : goal.returns-then-not-valid_run
+pub returns-then-not-is_valid : goal.returns-then-not-is_valid
 unfolding answer_of totals_of ◌>>◌ require number_of
-returns-then-not-valid_run c = grind (arith, common_steps)
+returns-then-not-is_valid c = grind (arith, common_steps)
 
 pub returns-then-not-one_of : goal.returns-then-not-one_of
 unfolding answer_of totals_of ◌>>◌ require number_of
@@ -18,12 +18,12 @@ returns-then-not-one_of c = grind (arith, common_steps)
 
 pub offset_bounds-self-rule : goal.offset_bounds-self-rule
 offset_bounds-self-rule c =
-    let fit = (valid_parts _ (sym c.if-not-valid_run.ensures)).rules_fit in
+    let fit = (valid_parts _ (sym c.if-not-is_valid.ensures)).rules_fit in
     grind (arith, nat_tests, common_steps)
 
 pub bounds-self-rule : goal.bounds-self-rule
 bounds-self-rule c =
-    let fit = (valid_parts _ (sym c.if-not-valid_run.ensures)).rules_fit in
+    let fit = (valid_parts _ (sym c.if-not-is_valid.ensures)).rules_fit in
     grind (arith, nat_tests, common_steps)
 
 pub returns : goal.returns

@@ -33,7 +33,7 @@ one_invalid closed t count cells j h e =
 
 pub loop-j-init : goal.loop-j-init
 loop-j-init c =
-    let full : length c.args.cells ≡ places = search rules in
+    let full : length c.args.cells.now ≡ places = search rules in
     let slots : length c.args.totals ≡ most_rules = search rules in
     (omega arith, all_none _, counting_none _ _ _ full slots)
 
@@ -42,11 +42,11 @@ pub loop-j-preserved-then-is_idle : goal.loop-j-preserved-then-is_idle
 loop-j-preserved-then-is_idle c =
     let l = c.loop-j in
     let a = c.args in
-    let s : Standing = (get_or a.cells l.j idle_cell).standing in
+    let s : Standing = (get_or a.cells.now l.j idle_cell).standing in
     let idle : is_idle s ≡ true = sym c.is_idle.ensures ∙ c.if-is_idle.true in
     let low : l.j < places = omega (arith, c.requires.0) in (
       omega arith,
-      all_again _ _ l.invariant.1 (sym (idle_anywhere a.closed (events_judged (rule_at a.table (l.j / 256 + 1)) a.count) (l.j % 256 + 1) s idle)),
+      all_again _ _ l.invariant.1 (sym (idle_anywhere a.closed a.count (events_judged (rule_at a.table.now (l.j / 256 + 1)) a.count) (l.j % 256 + 1) s idle)),
       counting_idle l.invariant.2 c.requires.1 low (only_idle s idle),
     )
 
@@ -62,8 +62,8 @@ unfolding no_rule no_condition no_comparison
 returns-then-not-valid_at c =
     let l = c.loop-j in
     let a = c.args in
-    let own = of_row a.table (l.j / 256) a.count c.events_judged-judged.ensures in
-    rw (← one_invalid a.closed a.table a.count a.cells l.j (omega arith) (rw (← own) (sym c.if-not-valid_at.ensures)))
+    let own = of_row a.table.now (l.j / 256) a.count c.events_judged-judged.ensures in
+    rw (← one_invalid a.closed a.table.now a.count a.cells.now l.j (omega arith) (rw (← own) (sym c.if-not-valid_at.ensures)))
 
 -- any other is counted, and judged
 pub loop-j-preserved : goal.loop-j-preserved
@@ -71,12 +71,12 @@ unfolding no_rule no_condition no_comparison
 loop-j-preserved c =
     let l = c.loop-j in
     let a = c.args in
-    let s : Standing = (get_or a.cells l.j idle_cell).standing in
-    let own = of_row a.table (l.j / 256) a.count c.events_judged-judged.ensures in
-    let holds : valid a.closed a.table a.count a.cells l.j ≡ true = rw (← own) (sym c.if-not-valid_at.ensures) in
+    let s : Standing = (get_or a.cells.now l.j idle_cell).standing in
+    let own = of_row a.table.now (l.j / 256) a.count c.events_judged-judged.ensures in
+    let holds : valid a.closed a.table.now a.count a.cells.now l.j ≡ true = rw (← own) (sym c.if-not-valid_at.ensures) in
     let low : l.j < places = omega (arith, c.requires.0) in
-    let within = stands_judged a.closed (events_judged (rule_at a.table (l.j / 256 + 1)) a.count) (l.j % 256 + 1) s holds (sym c.if-is_idle.ensures) in
-    let most = judged_most (rule_at a.table (l.j / 256 + 1)) a.count in (
+    let within = stands_judged a.closed a.count (events_judged (rule_at a.table.now (l.j / 256 + 1)) a.count) (l.j % 256 + 1) s holds (sym c.if-is_idle.ensures) in
+    let most = judged_most (rule_at a.table.now (l.j / 256 + 1)) a.count in (
       omega arith,
       all_again _ _ l.invariant.1 (sym holds),
       counting_more l.invariant.2 c.requires.1 low (omega (arith, within, most)) c.with_standing.ensures,
@@ -87,7 +87,7 @@ returns c =
     let l = c.loop-j in
     let a = c.args in
     let slots : length a.totals ≡ most_rules = search rules in
-    let whole : l.j ≡ a.table.count * 256 = omega arith in
-    let holds : true ≡ valid_standings a.closed a.table a.count a.cells = l.invariant.1 ∙ ap (all_below _) whole ∙ flat_standings a.closed a.table a.count a.cells in
+    let whole : l.j ≡ a.table.now.count * 256 = omega arith in
+    let holds : true ≡ valid_standings a.closed a.table.now a.count a.cells.now = l.invariant.1 ∙ ap (all_below _) whole ∙ flat_standings a.closed a.table.now a.count a.cells.now in
     rw (← holds)
-    (ap Some (counting_all l.invariant.2 c.requires.1 a.table.count slots (omega (arith, whole, c.requires.0))))
+    (ap Some (counting_all l.invariant.2 c.requires.1 a.table.now.count slots (omega (arith, whole, c.requires.0))))

@@ -9,13 +9,14 @@ use Rattle.declare.specs.Rules.{rule_at}
 use Rattle.standings.specs.declared.Cell.{Cell}
 use Rattle.standings.specs.Places.{idle_cell}
 use Rattle.standings.proofs.Counting.{Counting}
-use Rattle.run.specs.Records.{valid_at, events_judged}
+use Rattle.run.specs.Records.{events_judged}
+use Rattle.run.proofs.Places.{stands_at}
 use Rattle.run.proofs.record.checked_rows.Given as goal
 
 -- the cell at place i may stand there
 abbrev pub valid : Bool → Table → ℕ → List Cell → ℕ → Bool
 valid closed t count cells i =
-    valid_at closed (events_judged (rule_at t (i / 256 + 1)) count) (i % 256 + 1) (get_or cells i idle_cell).standing
+    stands_at closed count (events_judged (rule_at t (i / 256 + 1)) count) (i % 256 + 1) (get_or cells i idle_cell).standing
 
 abbrev pub invariant-loop-j : goal.invariant-loop-j
 invariant-loop-j l = (l.j ≤ l.end)

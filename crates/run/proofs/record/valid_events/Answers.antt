@@ -22,4 +22,4 @@ pub returns : goal.returns
 unfolding valid_events
 returns c =
     let few : c.args.count ≤ 256 = omega arith in
-    rw (le-leb c.args.count 256 few, ← take_all c.loop-e.e-index (take c.args.count c.args.events) (omega arith)) c.loop-e.invariant.so_far
+    rw (le-leb c.args.count 256 few, ← take_all c.loop-e.e-index (take c.args.count c.args.events.now) (omega arith)) c.loop-e.invariant.so_far

@@ -6,7 +6,7 @@ use Rattle.standings.specs.Totals.{zero_totals}
 use Rattle.run.specs.Records.{valid_run}
 use Rattle.run.proofs.Bounds.{events_within}
 use Rattle.run.proofs.Stored.{checked_are, totals_checked}
-use Rattle.run.proofs.record.valid_run.Goals as goal
+use Rattle.run.proofs.record.is_valid.Goals as goal
 
 pub returns-then-not-valid_table : goal.returns-then-not-valid_table
 unfolding valid_run
@@ -22,7 +22,7 @@ returns-in_default c = grind (arith, common_steps)
 pub returns-then-valid_overall : goal.returns-then-valid_overall
 unfolding valid_run
 returns-then-valid_overall c =
-    let r = c.args.run in
+    let r = c.args.run.now in
     let rules = rules_within r.table (sym c.if-not-valid_table.ensures) in
     let few = events_within r.count r.events (sym c.if-not-valid_events.ensures) in
     let p = checked_are _ c.in-Some.ensures in
