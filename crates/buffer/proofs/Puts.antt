@@ -151,3 +151,7 @@ put_then a b =
 
 pub put_as : {xs ys : List ℕ} {before after : Output} → xs ≡ ys → Put xs before after → Put ys before after
 put_as e a = record { same_reference = a.same_reference; puts = puts_as e a.puts }
+
+-- the lent buffer ends as what the output holds, since the output still holds it
+pub put_lent : {text lent : List ℕ} {before after : Output} → Put text before after → (before.bytes.ghost_name ≡ after.bytes.ghost_name → lent ≡ after.bytes.now) → Puts text before.bytes.now before.at lent after.at
+put_lent a left = rw (left (sym a.same_reference)) a.puts
