@@ -9,7 +9,8 @@ use borrow.Author.Tests.{lt-ltb, le-ltb, ltb-true}
 use lib.Dec.{ltb}
 use lib.ListN.{length, set, take, drop, length-set, length-append, length-drop, take-append-drop}
 use lib.Seq.{set_out, set-append_seam, take-append_seam, length-take-le}
-use Rattle.buffer.specs.Puts.{next, place_after, stored, Puts}
+use Rattle.buffer.specs.declared.put.Output.{Output}
+use Rattle.buffer.specs.Puts.{next, place_after, stored, Puts, Put}
 
 -- ---- the place
 
@@ -138,3 +139,19 @@ puts_within {xs} {l} a =
     let s = puts_length a in
     let e = a.ends in
     omega (arith, place_inside (length l) 0 xs (omega arith))
+
+-- ---- the same of an output
+
+pub put_none : (o : Output) → Put [] o o
+put_none o = record { same_reference = refl; puts = puts_none _ _ }
+
+pub put_then : {xs ys : List ℕ} {before between after : Output} → Put xs before between → Put ys between after → Put (xs ++ ys) before after
+put_then a b =
+    record { same_reference = b.same_reference ∙ a.same_reference; puts = puts_then a.puts b.puts }
+
+pub put_as : {xs ys : List ℕ} {before after : Output} → xs ≡ ys → Put xs before after → Put ys before after
+put_as e a = record { same_reference = a.same_reference; puts = puts_as e a.puts }
+
+-- the lent buffer ends as what the output holds, since the output still holds it
+pub put_lent : {text lent : List ℕ} {before after : Output} → Put text before after → (before.bytes.ghost_name ≡ after.bytes.ghost_name → lent ≡ after.bytes.now) → Puts text before.bytes.now before.at lent after.at
+put_lent a left = rw (left (sym a.same_reference)) a.puts

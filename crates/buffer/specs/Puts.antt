@@ -22,6 +22,7 @@ pub record Puts (text before : List ℕ) (at : ℕ) (after : List ℕ) (place : 
   pub stores : after ≡ stored before at text
   pub ends : place ≡ place_after (length before) at text
 
--- the same of the code's output: a buffer with a place
-abbrev pub Put : List ℕ → Output → Output → Type 0
-Put text before after = Puts text before.bytes.now before.at after.bytes.now after.at
+-- the same of the code's output, a lent buffer with a place: it still holds the buffer that was lent
+pub record Put (text : List ℕ) (before after : Output) : Type 0 where
+  pub same_reference : after.bytes.ghost_name ≡ before.bytes.ghost_name
+  pub puts : Puts text before.bytes.now before.at after.bytes.now after.at

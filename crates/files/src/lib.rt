@@ -95,7 +95,7 @@ fn print_unread(rt: &(impl Print + Eprint), word: &[u8]) {
     };
     put_unread(&mut out, word);
     let length = out.at;
-    print(rt, &out.bytes[..length]);
+    print(rt, &line[..length]);
 }
 
 // The length of the file of that name, whose bytes stand in front of the buffer. If it is not read

@@ -31,7 +31,7 @@ pub fn write_report(run: Run, out: &mut [u8]) -> Result<usize, Refusal>
     };
     rules::put_report(&mut put, &run);
     let length = put.at;
-    write(&put.bytes[..length], out)
+    write(&text[..length], out)
 }
 
 // What is printed of a rules text and a cycle text: the verdicts, or the line of the first refusal.

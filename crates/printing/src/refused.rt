@@ -46,5 +46,5 @@ pub fn write_refused(text: Text, number: u8, line: u32, out: &mut [u8]) -> Resul
     };
     put_word(&mut put, text, number, line);
     let length = put.at;
-    write(&put.bytes[..length], out)
+    write(&bytes[..length], out)
 }

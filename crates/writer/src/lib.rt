@@ -35,7 +35,7 @@ pub fn write_rules(table: Table, out: &mut [u8]) -> Result<usize, Refusal>
     };
     rule::put_rules(&mut put, &table.rules[..table.count]);
     let length = put.at;
-    write(&put.bytes[..length], out)
+    write(&text[..length], out)
 }
 
 // The events of the run, closed or not. Refused with 11 or 15.
@@ -45,12 +45,13 @@ pub fn write_cycle(run: Run, out: &mut [u8]) -> Result<usize, Refusal>
     if !valid_run(run) {
         return Err(Refusal::InvalidRecord);
     }
+    let events = run.events;
     let mut text = [0u8; CYCLE_BYTES];
     let mut put = Output {
         bytes: &mut text,
         at: 0,
     };
-    event::put_events(&mut put, &run.events[..run.count]);
+    event::put_events(&mut put, &events[..run.count]);
     let length = put.at;
-    write(&put.bytes[..length], out)
+    write(&text[..length], out)
 }

@@ -1,14 +1,14 @@
 -- Four fields, each with the byte that ends it.
 use Rattle.std.proofs.Common.{rules}
-use Rattle.buffer.proofs.Puts.{puts_then, puts_as}
-use Rattle.buffer.proofs.Lines.{puts_line}
+use Rattle.buffer.proofs.Puts.{put_then, put_as}
+use Rattle.buffer.proofs.Lines.{put_line}
 use Rattle.printing.specs.Lines.{line_fields}
 use Rattle.printing.proofs.activation.put_activation.Goals as goal
 
 pub returns : goal.returns
 unfolding line_fields
 returns c =
-    puts_line line_fields _
-    (puts_then c.put_number_field.ensures
-    (puts_then c.put_number_field-2.ensures
-    (puts_then (puts_then c.put_byte.ensures c.put_byte-2.ensures) (puts_as (search (rules, c.from.ensures)) c.put_number_field-3.ensures))))
+    put_line line_fields _
+    (put_then c.put_number_field.ensures
+    (put_then c.put_number_field-2.ensures
+    (put_then (put_then c.put_byte.ensures c.put_byte-2.ensures) (put_as (search (rules, c.from.ensures)) c.put_number_field-3.ensures))))

@@ -14,6 +14,7 @@ unfolding with_zero
 loop-p-init c =
     let a = c.args in
     record {
+      same_reference = refl;
       put = no_position _ _ _ _;
       counted = c.with_standing-totals.ensures ∙ ap (λ t. with_standing t a.zero) c.no_totals.ensures ∙ totals_first (with_zero a.zero (standing_from a.row.now 0));
     }
@@ -25,7 +26,8 @@ loop-p-preserved c =
     let row = c.args.row.now in
     let e : 0 + l.p ≡ l.p = omega arith in
     record {
-      put = next_position _ _ l.p _ (rw e at (next_place z row 0 l.p)) l.invariant.put c.put_position.ensures;
+      same_reference = c.put_position.ensures.same_reference ∙ l.invariant.same_reference;
+      put = next_position _ _ l.p _ (rw e at (next_place z row 0 l.p)) l.invariant.put c.put_position.ensures.puts;
       counted = totals_again z row 0 l.p (omega arith) l.invariant.counted (rw e refl) c.with_standing-totals-in-loop-p.ensures;
     }
 
@@ -33,4 +35,7 @@ pub returns : goal.returns
 returns c =
     let l = c.loop-p in
     let all : l.p ≡ length c.args.row.now = omega arith in
-    rw (← all) (then_totals _ _ l.p _ l.invariant.counted l.invariant.put c.put_total.ensures)
+    record {
+      same_reference = c.put_total.ensures.same_reference ∙ l.invariant.same_reference;
+      puts = rw (← all) (then_totals _ _ l.p _ l.invariant.counted l.invariant.put c.put_total.ensures.puts);
+    }

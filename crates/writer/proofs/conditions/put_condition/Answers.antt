@@ -9,8 +9,9 @@ use Rattle.declare.specs.Conditions.{comparisons_of}
 use Rattle.line.specs.Fields.{each_after, joined}
 use Rattle.rule_text.specs.Conditions.{comma}
 use Rattle.rule_text.specs.Written.{comparison_text, comparisons_text, condition_text}
-use Rattle.buffer.specs.Puts.{Puts}
-use Rattle.buffer.proofs.Puts.{puts_then, puts_as}
+use Rattle.buffer.specs.declared.put.Output.{Output}
+use Rattle.buffer.specs.Puts.{Put}
+use Rattle.buffer.proofs.Puts.{put_then, put_as}
 use Rattle.writer.proofs.conditions.put_condition.Goals as goal
 
 -- one comparison more
@@ -23,13 +24,13 @@ each_more (c ∷ cs) (suc k) none h =
 
 pub returns-then-c-eq0 : goal.returns-then-c-eq0
 unfolding condition_text comparisons_text comparisons_of
-returns-then-c-eq0 c = puts_as (rw c.if-c-eq0.true refl) c.put_byte.ensures
+returns-then-c-eq0 c = put_as (rw c.if-c-eq0.true refl) c.put_byte.ensures
 
-next_put : {l m n : List ℕ} {at p q : ℕ} (first : List ℕ) (cs : List Comparison) (k : ℕ) (none : Comparison) → k < length cs → Puts (first ++ each_after comma (map comparison_text (take k cs))) l at m p → Puts (comma ∷ comparison_text (get_or cs k none)) m p n q → Puts (first ++ each_after comma (map comparison_text (take (k + 1) cs))) l at n q
+next_put : {old between new : Output} (first : List ℕ) (cs : List Comparison) (k : ℕ) (none : Comparison) → k < length cs → Put (first ++ each_after comma (map comparison_text (take k cs))) old between → Put (comma ∷ comparison_text (get_or cs k none)) between new → Put (first ++ each_after comma (map comparison_text (take (k + 1) cs))) old new
 next_put first cs k none h a b =
     let before = each_after comma (map comparison_text (take k cs)) in
     let next = comma ∷ comparison_text (get_or cs k none) in
-    rw (add-one k, each_more cs k none h) (puts_as (append_assoc first before next) (puts_then a b))
+    rw (add-one k, each_more cs k none h) (put_as (append_assoc first before next) (put_then a b))
 
 -- the first, and those behind it up to the count
 all_put : (c : Condition) (n : ℕ) → (c.count ≡ 0 → ⊥) → n ≡ min (c.count - 1) 3 → comparison_text c.first ++ each_after comma (map comparison_text (take n (c.second ∷ c.third ∷ c.fourth ∷ []))) ≡ condition_text c
@@ -44,7 +45,7 @@ all_put c n some e = go c.count refl
 
 pub loop-next-init : goal.loop-next-init
 unfolding each_after
-loop-next-init c = puts_as (sym (append-nil _)) c.put_comparison.ensures
+loop-next-init c = put_as (sym (append-nil _)) c.put_comparison.ensures
 
 pub loop-next-preserved : goal.loop-next-preserved
 loop-next-preserved c =
@@ -54,4 +55,4 @@ loop-next-preserved c =
 pub returns : goal.returns
 returns c =
     let l = c.loop-next in
-    puts_as (all_put c.args.c c.min-count.result c.if-c-eq0.false (c.min-count.ensures ∙ ap (λ (n : ℕ). min n 3) c.from.ensures)) (rw (take_all l.next-index _ c.loop-next-test.false) at l.invariant)
+    put_as (all_put c.args.c c.min-count.result c.if-c-eq0.false (c.min-count.ensures ∙ ap (λ (n : ℕ). min n 3) c.from.ensures)) (rw (take_all l.next-index _ c.loop-next-test.false) at l.invariant)

@@ -2,18 +2,18 @@
 use lib.Seq.{take_all}
 use Rattle.line.specs.Texts.{written_text}
 use Rattle.cycle_text.specs.Written.{event_fields, events_text}
-use Rattle.buffer.proofs.Puts.{puts_none}
-use Rattle.buffer.proofs.Lines.{puts_more}
+use Rattle.buffer.proofs.Puts.{put_none}
+use Rattle.buffer.proofs.Lines.{put_more}
 use Rattle.writer.proofs.event.put_events.Goals as goal
 
 pub loop-event-init : goal.loop-event-init
 unfolding events_text written_text
-loop-event-init c = puts_none _ _
+loop-event-init c = put_none _
 
 pub loop-event-preserved : goal.loop-event-preserved
 unfolding events_text
 loop-event-preserved c =
-    puts_more event_fields _ c.loop-event.event-index _ c.loop-event-test.true c.loop-event.invariant c.put_event.ensures
+    put_more event_fields _ c.loop-event.event-index _ c.loop-event-test.true c.loop-event.invariant c.put_event.ensures
 
 pub returns : goal.returns
 returns c =

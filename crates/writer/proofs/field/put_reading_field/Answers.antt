@@ -1,6 +1,6 @@
 -- The reading, then the byte.
-use Rattle.buffer.proofs.Puts.{puts_then}
+use Rattle.buffer.proofs.Puts.{put_then}
 use Rattle.writer.proofs.field.put_reading_field.Goals as goal
 
 pub returns : goal.returns
-returns c = puts_then c.put_reading.ensures c.put_byte.ensures
+returns c = put_then c.put_reading.ensures c.put_byte.ensures

@@ -2,18 +2,18 @@
 use lib.Seq.{take_all}
 use Rattle.line.specs.Texts.{written_text}
 use Rattle.rule_text.specs.Written.{rule_fields, rules_text}
-use Rattle.buffer.proofs.Puts.{puts_none}
-use Rattle.buffer.proofs.Lines.{puts_more}
+use Rattle.buffer.proofs.Puts.{put_none}
+use Rattle.buffer.proofs.Lines.{put_more}
 use Rattle.writer.proofs.rule.put_rules.Goals as goal
 
 pub loop-rule-init : goal.loop-rule-init
 unfolding rules_text written_text
-loop-rule-init c = puts_none _ _
+loop-rule-init c = put_none _
 
 pub loop-rule-preserved : goal.loop-rule-preserved
 unfolding rules_text
 loop-rule-preserved c =
-    puts_more rule_fields _ c.loop-rule.rule-index _ c.loop-rule-test.true c.loop-rule.invariant c.put_rule.ensures
+    put_more rule_fields _ c.loop-rule.rule-index _ c.loop-rule-test.true c.loop-rule.invariant c.put_rule.ensures
 
 pub returns : goal.returns
 returns c =

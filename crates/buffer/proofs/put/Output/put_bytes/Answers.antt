@@ -34,7 +34,10 @@ returns-then-self c =
     let n = c.min-n.result in
     let at = c.args.self.now.at in
     let e : at + n - at ≡ n = omega arith in
-    rw (c.copy_from_slice.ensures.after, e) (put c.args.bytes.now c.args.self.now.bytes.now at n c.min-n.ensures c.if-self.true)
+    record {
+      same_reference = refl;
+      puts = rw (c.copy_from_slice.ensures.after, e) (put c.args.bytes.now c.args.self.now.bytes.now at n c.min-n.ensures c.if-self.true);
+    }
 
 pub returns-else-self : goal.returns-else-self
-returns-else-self c = puts_full _ _ _ c.if-self.false
+returns-else-self c = record { same_reference = refl; puts = puts_full _ _ _ c.if-self.false }

@@ -10,7 +10,7 @@ use mir.Syntax.{w32}
 use mir.Facts.{to_z-of_z}
 use Rattle.number.specs.Number.{hyphen}
 use Rattle.number.specs.Written.{digits_of, integer_text}
-use Rattle.buffer.proofs.Puts.{puts_then, puts_as}
+use Rattle.buffer.proofs.Puts.{put_then, put_as}
 use Rattle.buffer.proofs.put.Output.put_integer.Goals as goal
 use Rattle.buffer.proofs.put.Output.put_integer.Goals.{then-z-lt0, else-z-lt0}
 
@@ -29,6 +29,6 @@ returns c =
     let same = to_z-of_z {w = w32} {z = c.args.z} c.ranges.z in
     let digits = rw (c.unsigned_abs.ensures.value, same) at c.put_number.ensures in
     elim c.if-z-lt0.branch [
-      | then-z-lt0 w ↦ puts_as (below c.args.z (rw same at w.if-z-lt0.true)) (puts_then w.put_byte.ensures (rw w.self-is at digits))
-      | else-z-lt0 w ↦ puts_as (not_below c.args.z (rw same at w.if-z-lt0.false)) (rw w.self-is at digits)
+      | then-z-lt0 w ↦ put_as (below c.args.z (rw same at w.if-z-lt0.true)) (put_then w.put_byte.ensures (rw w.self-is at digits))
+      | else-z-lt0 w ↦ put_as (not_below c.args.z (rw same at w.if-z-lt0.false)) (rw w.self-is at digits)
     ]

@@ -12,7 +12,7 @@ use lib.Seq.{set_split, drop_at, length-take-le, take_all}
 use Rattle.number.specs.Written.{digits_of}
 use Rattle.number.proofs.Written.{digits_one, digits_more}
 use Rattle.number.proofs.Lengths.{digits_length}
-use Rattle.buffer.proofs.Puts.{puts_as}
+use Rattle.buffer.proofs.Puts.{put_as}
 use Rattle.buffer.proofs.put.Output.put_number.Goals as goal
 
 -- ---- the digits by number
@@ -73,4 +73,4 @@ pub returns : goal.returns
 returns c =
     let l = c.loop-left in
     let p = c.put_bytes.ensures in
-    puts_as (last l.digits l.first l.left _ l.invariant.0 (omega arith) (omega arith) l.invariant.3) p
+    put_as (last l.digits l.first l.left _ l.invariant.0 (omega arith) (omega arith) l.invariant.3) p
