@@ -1,5 +1,4 @@
--- What the reader promises of what a comparison holds, of the end of a window, of a line below
--- others, and of a text.
+-- What the reader promises of what a comparison holds, of the end of a window, and of a text.
 use Rattle.std.specs.Prelude.{◌≡◌, cond, List, [], ℕ, None, Some, Result, IfOk}
 use Rattle.declare.specs.Events.{latest}
 use Rattle.declare.specs.Rules.{rules_of}
@@ -11,7 +10,7 @@ use Rattle.line.specs.Values.{natural_answer}
 use Rattle.line.specs.Texts.{Records, All, Stop, records_read}
 use Rattle.rule_text.specs.Types.{End, Rule, Table, Reader, Field, LineRefusal}
 use Rattle.rule_text.specs.Conditions.{comma}
-use Rattle.rule_text.specs.Rules.{in_table, rules_text_of}
+use Rattle.rule_text.specs.Rules.{rules_text_of}
 
 -- the field with which a part of a condition begins, and its length
 unfoldable pub up_to_comma : {A : Type 0} → (List ℕ → Answer A) → List ℕ → Answer (Field A)
@@ -26,12 +25,6 @@ end_by reader =
     (do
       b ← natural_answer (natural_in 1 latest reader)
       accepted (Some b))
-
--- a rule's line, once it is read, below others
-unfoldable pub below : List Rule → Answer Rule → Answer Rule
-below above answer = do
-  rule ← answer
-  in_table above rule
 
 -- ---- the text
 

@@ -6,26 +6,24 @@ mod comparison; // comparison.rt: comparisons, and what they compare with
 mod condition; // condition.rt: conditions
 mod rule; // rule.rt: rule lines
 
-ghost use Rattle.std.specs.Prelude.{◌≡◌, List, length};
-ghost use Rattle.declare.specs.Answers.{answer_of};
-ghost use Rattle.rule_text.specs.Types.{Rule as ARule};
-ghost use Rattle.rule_text.specs.Reads.{below, ReadsRules};
+ghost use Rattle.std.specs.Prelude.{◌≡◌, ltb};
+ghost use Rattle.declare.specs.Answers.{answer_of, require};
+ghost use Rattle.declare.specs.Limits.{most_rules};
+ghost use Rattle.rule_text.specs.Reads.{ReadsRules};
 
 use crate::rule::rule_line;
 use declare::slots::no_rule;
-use declare::{RULES, Refusal, Rule, Table};
+use declare::{RULES, Refusal, Table};
 use line::{LineRefusal, at_line, part_from};
 
-// The rule of a line below `count` rules.
-fn in_table(answer: Result<Rule, Refusal>, count: usize) -> Result<Rule, Refusal>
-    ensures { (above : List ARule) → count ≡ length above
-        → answer_of result ≡ below above (answer_of answer) }
+// Whether a rule has room below `count` rules.
+fn room(count: usize) -> Result<(), Refusal>
+    ensures { answer_of result ≡ require (ltb count most_rules) 8 }
 {
-    let rule = answer?;
     if RULES <= count {
         return Err(Refusal::TooMany);
     }
-    Ok(rule)
+    Ok(())
 }
 
 // The rules of a rules text. Each line's reader is handed the part of the text that begins at the
@@ -39,7 +37,8 @@ pub fn read_rules(text: &[u8]) -> Result<Table, LineRefusal>
     let mut rest = text;
     while !rest.is_empty() {
         let line = rule_line(rest);
-        let rule = at_line(in_table(line.answer, count), count + 1)?;
+        let rule = at_line(line.answer, count + 1)?;
+        at_line(room(count), count + 1)?;
         rules[count] = rule;
         count += 1;
         rest = part_from(rest, line.next);
