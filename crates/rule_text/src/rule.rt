@@ -14,7 +14,8 @@ use line::{LINE_FEED, Line, TAB, byte_field, check_line, number_field, rest_of};
 // The tabs between the seven fields of a line.
 const TABS: usize = 6;
 
-// The checks of a rule whose fields are all read.
+// The checks of a rule whose fields are all read. Inlined, so that the rule is not copied for them.
+#[inline(always)]
 fn checked_rule(rule: Rule) -> Result<Rule, Refusal>
     ensures { answer_of result ≡ checked_rule rule }
 {
