@@ -9,6 +9,7 @@ use Rattle.run.specs.declared.Run.{Run}
 use Rattle.standings.specs.declared.totals.Totals.{Totals}
 use Rattle.run.specs.RecordCases.{Case, ◌is◌, AsExpected, of_standings, totals}
 use Rattle.tally.specs.declared.Tally.{Tally}
+use Rattle.tally.specs.Causes.{refuses_with}
 use Rattle.tally.specs.Tally.{has_room_for, added, counts_of, with_totals, absorb_of, tally_answer}
 
 -- cycles, activations, fulfilled, violated
@@ -96,6 +97,17 @@ counted_answers =
     ∷ answer_of (Err WrongPhase) is refused 9
     ∷ []
 
+-- a number is among those that an answer may be refused with
+unfoldable pub causes : List (Case Bool)
+causes =
+    refuses_with (11 ∷ 10 ∷ 9 ∷ []) (accepted (totals 1 2 3 4)) is true
+    ∷ refuses_with (11 ∷ 10 ∷ 9 ∷ []) (answer_of {A = Totals} (Err InvalidRecord)) is true
+    ∷ refuses_with (11 ∷ 10 ∷ 9 ∷ []) (answer_of {A = Totals} (Err WrongPhase)) is true
+    ∷ refuses_with (11 ∷ 10 ∷ 9 ∷ []) (answer_of {A = Totals} (Err TallyOverflow)) is false
+    ∷ refuses_with (11 ∷ 10 ∷ 9 ∷ 14 ∷ []) (answer_of {A = Totals} (Err TallyOverflow)) is true
+    ∷ refuses_with [] (answer_of {A = Totals} (Err NotFound)) is false
+    ∷ []
+
 pub record Checked : Type 0 where
   pub of_limits : AsExpected limits
   pub of_sums : AsExpected sums
@@ -104,3 +116,4 @@ pub record Checked : Type 0 where
   pub of_after : AsExpected afterwards
   pub of_answers : AsExpected answers
   pub of_counted_answers : AsExpected counted_answers
+  pub of_causes : AsExpected causes
