@@ -105,6 +105,16 @@ stands_judged over n m i s h active = go (leb i m) refl h
     go true q h = leb-true i m q
     go false q h = absurd (true≢false (sym h ∙ active))
 
+-- the places of the rows, in flat order
+pub flat_standings : (closed : Bool) (t : Table) (count : ℕ) (cells : List Cell) → all_below (λ j. valid_at closed (events_judged (rule_at t (j / 256 + 1)) count) (j % 256 + 1) (get_or cells j idle_cell).standing) (t.count * 256) ≡ valid_standings closed t count cells
+unfolding valid_standings valid_row
+flat_standings closed t count cells =
+    all_same _ (λ j. at (j / 256) (j % 256)) (t.count * 256) (λ j l. ap (λ (s : Standing). valid_at closed (events_judged (rule_at t (j / 256 + 1)) count) (j % 256 + 1) s) (sym (standing_at_lem cells j)))
+    ∙ all_rows at t.count
+  where
+    at : ℕ → ℕ → Bool
+    at k p = valid_at closed (events_judged (rule_at t (k + 1)) count) (p + 1) (standing_in cells (k + 1) (p + 1))
+
 -- under a rule all events are judged, or none
 stands_valid : (closed : Bool) (r : Rule) (n p : ℕ) (s : Standing) → stands_at closed n (events_judged r n) (p + 1) s ≡ valid_at closed (events_judged r n) (p + 1) s
 unfolding events_judged valid_at
@@ -114,14 +124,8 @@ stands_valid closed r n p s = go (is_overall r.code)
     go true = rw (lt-leb (p + 1) 0 (omega arith)) refl
     go false = refl
 
--- the places of the rows, in flat order
-pub flat_standings : (closed : Bool) (t : Table) (count : ℕ) (cells : List Cell) → all_below (λ j. stands_at closed count (events_judged (rule_at t (j / 256 + 1)) count) (j % 256 + 1) (get_or cells j idle_cell).standing) (t.count * 256) ≡ valid_standings closed t count cells
-unfolding valid_standings valid_row
-flat_standings closed t count cells =
-    all_same _ (λ j. at (j / 256) (j % 256)) (t.count * 256)
-    (λ j l. ap (λ (s : Standing). stands_at closed count (events_judged (rule_at t (j / 256 + 1)) count) (j % 256 + 1) s) (sym (standing_at_lem cells j))
-    ∙ stands_valid closed (rule_at t (j / 256 + 1)) count (j % 256) _)
-    ∙ all_rows at t.count
-  where
-    at : ℕ → ℕ → Bool
-    at k p = valid_at closed (events_judged (rule_at t (k + 1)) count) (p + 1) (standing_in cells (k + 1) (p + 1))
+-- so each target may be held against the event count itself
+pub flat_stands_at : (closed : Bool) (t : Table) (count : ℕ) (cells : List Cell) → all_below (λ j. stands_at closed count (events_judged (rule_at t (j / 256 + 1)) count) (j % 256 + 1) (get_or cells j idle_cell).standing) (t.count * 256) ≡ valid_standings closed t count cells
+flat_stands_at closed t count cells =
+    all_same _ _ (t.count * 256) (λ j l. stands_valid closed (rule_at t (j / 256 + 1)) count (j % 256) _)
+    ∙ flat_standings closed t count cells

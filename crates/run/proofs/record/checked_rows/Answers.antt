@@ -21,7 +21,7 @@ use Rattle.standings.proofs.Counting.{counting_none, counting_idle, counting_mor
 use Rattle.run.specs.Records.{events_judged, valid_standings}
 use Rattle.declare.proofs.Lists.{all_each}
 use Rattle.run.proofs.Places.{idle_anywhere}
-use Rattle.run.proofs.Checks.{judged_most, stands_judged, flat_standings}
+use Rattle.run.proofs.Checks.{judged_most, stands_judged, flat_stands_at}
 use borrow.Author.Rules.{rules}
 use Rattle.run.proofs.record.checked_rows.Invariants.{valid}
 use Rattle.run.proofs.record.checked_rows.Goals as goal
@@ -29,7 +29,7 @@ use Rattle.run.proofs.record.checked_rows.Goals as goal
 one_invalid : (closed : Bool) (t : Table) (count : ℕ) (cells : List Cell) (j : ℕ) → j < t.count * 256 → valid closed t count cells j ≡ false → false ≡ valid_standings closed t count cells
 one_invalid closed t count cells j h e =
     sym (fails (all_below (valid closed t count cells) (t.count * 256)) (λ a. all_each (valid closed t count cells) (t.count * 256) a j h) e)
-    ∙ flat_standings closed t count cells
+    ∙ flat_stands_at closed t count cells
 
 pub loop-j-init : goal.loop-j-init
 loop-j-init c =
@@ -88,6 +88,6 @@ returns c =
     let a = c.args in
     let slots : length a.totals ≡ most_rules = search rules in
     let whole : l.j ≡ a.table.now.count * 256 = omega arith in
-    let holds : true ≡ valid_standings a.closed a.table.now a.count a.cells.now = l.invariant.1 ∙ ap (all_below _) whole ∙ flat_standings a.closed a.table.now a.count a.cells.now in
+    let holds : true ≡ valid_standings a.closed a.table.now a.count a.cells.now = l.invariant.1 ∙ ap (all_below _) whole ∙ flat_stands_at a.closed a.table.now a.count a.cells.now in
     rw (← holds)
     (ap Some (counting_all l.invariant.2 c.requires.1 a.table.now.count slots (omega (arith, whole, c.requires.0))))
